@@ -20,6 +20,13 @@ impl SheetSize {
         Some(SheetSize { value })
     }
 
+    /// The size of a sheet with no choices.
+    pub fn zero() -> SheetSize
+        ensures { λ r. ⌜ r .value ≡ 0 ⌝ }
+    {
+        SheetSize { value: 0 }
+    }
+
     pub fn get(self) -> u16
         ensures { λ r. ⌜ r ≡ self .value ⌝ ∗ ⌜ r ≤ 4096 ⌝ }
     {

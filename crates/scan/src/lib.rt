@@ -1,7 +1,17 @@
-//! From bytes to tokens.
+//! The bytes of a rule file as tokens.
+//!
+//! Every line, the last too, ends with a line feed. A line whose first byte is `c` is a comment and gives no token. Any
+//! other line gives `Line` at its first byte and then its tokens: numbers, which are runs of digits, `{`, `}`, commas, `p`,
+//! and its line feed. Spaces separate. Any other byte is refused, a `c` further on in a line too, and so is a number above
+//! 65,535, at its first digit. The file ends with `End` where a line would start, and with `Cut` inside a line.
+//!
+//! specs/Text.antt has this as a grammar, and specs/Scans.antt what the scanner answers.
 ghost use mathlib.Core.Path.{_≡_};
 ghost use Rattle.scan.specs.Bytes.{kind};
+ghost use Rattle.scan.specs.Causes.{scan-number};
+
 mod scanner;
+
 pub use scanner::Scanner;
 
 /// What a byte is to the scanner.
@@ -58,6 +68,19 @@ pub struct ScanFault {
     pub place: usize,
 }
 
+impl ScanCause {
+    /// The number by which the table of refusals knows the cause.
+    pub fn number(self) -> u8
+        ensures { λ r. ⌜ r ≡ scan-number self ⌝ }
+    {
+        match self {
+            ScanCause::UnknownByte => 11,
+            ScanCause::NumberTooLarge => 12,
+        }
+    }
+}
+
+/// What the byte is.
 pub fn kind_of(b: u8) -> ByteKind
     ensures { λ r. ⌜ r ≡ kind b ⌝ }
 {

@@ -1,0 +1,3 @@
+pub mod Pieces
+pub mod Tens
+pub mod Line

@@ -1,0 +1,131 @@
+//! The filling of storage from a file that was checked.
+ghost use mathlib.Core.Path.{_≡_};
+ghost use lib.ListN.{set};
+use super::file::Tally;
+use super::file::next_part;
+use super::line::LineReader;
+use super::line::Part;
+use rules::CountRow;
+use rules::RuleRow;
+use rules::Side;
+use rules::Span;
+use scan::Scanner;
+
+/// The rule and the count that are being read, and where they will stand.
+#[derive(Drop)]
+struct Filler {
+    rule: RuleRow,
+    rule_at: u16,
+    count: CountRow,
+    count_at: u16,
+}
+
+const NO_SPAN: Span = Span { start: 0, end: 0 };
+
+const NO_SIDE: Side = Side {
+    entries: NO_SPAN,
+    counts: NO_SPAN,
+};
+
+// Writes an element, where the list has that place.
+fn store<T: Copy>(list: &mut [T], at: u16, value: T)
+    ensures { λ _. ⌜ now (list .exit) ≡ set (now (list .entry)) at value ⌝ }
+{
+    let at = at as usize;
+    if at < list.len() {
+        list[at] = value;
+    }
+}
+
+// A side that starts with the next entry and the next count.
+fn begun(tally: Tally) -> Side {
+    Side {
+        entries: Span {
+            start: tally.entries,
+            end: tally.entries,
+        },
+        counts: Span {
+            start: tally.counts,
+            end: tally.counts,
+        },
+    }
+}
+
+// Ends a side before the next entry and the next count.
+fn end(side: &mut Side, tally: Tally) {
+    side.entries.end = tally.entries;
+    side.counts.end = tally.counts;
+}
+
+impl Filler {
+    fn new() -> Filler {
+        Filler {
+            rule: RuleRow {
+                body: NO_SIDE,
+                head: NO_SIDE,
+            },
+            rule_at: 0,
+            count: CountRow {
+                lower: 0,
+                upper: 0,
+                choices: NO_SPAN,
+            },
+            count_at: 0,
+        }
+    }
+
+    // Puts one part more into the storage; the tally is that of the parts before it.
+    fn put(
+        &mut self,
+        part: Part,
+        tally: Tally,
+        rules: &mut [RuleRow],
+        counts: &mut [CountRow],
+        entries: &mut [u16],
+    ) {
+        match part {
+            Part::RuleLine => {
+                self.rule.body = begun(tally);
+                self.rule_at = tally.rules;
+            }
+            Part::Choice(n) | Part::Member(n) => store(entries, tally.entries, n),
+            Part::CountOpen => {
+                self.count.choices.start = tally.entries;
+                self.count_at = tally.counts;
+            }
+            Part::Lower(n) => self.count.lower = n,
+            Part::Upper(n) => self.count.upper = n,
+            Part::CountClose => {
+                self.count.choices.end = tally.entries;
+                store(counts, self.count_at, self.count);
+            }
+            Part::Comma => {
+                end(&mut self.rule.body, tally);
+                self.rule.head = begun(tally);
+            }
+            Part::RuleEnd => {
+                end(&mut self.rule.head, tally);
+                store(rules, self.rule_at, self.rule);
+            }
+            _ => {}
+        }
+    }
+}
+
+/// Fills the storage from a file that has no fault.
+pub fn fill(bytes: &[u8], rules: &mut [RuleRow], counts: &mut [CountRow], entries: &mut [u16]) {
+    let mut scanner = Scanner::new(bytes);
+    let mut line = LineReader::new();
+    let mut tally = Tally::new();
+    let mut filler = Filler::new();
+    loop {
+        let before = tally;
+        let Ok(part) = next_part(&mut scanner, &mut line, &mut tally) else {
+            return;
+        };
+        if let Part::End = part {
+            return;
+        }
+        filler.put(part, before, rules, counts, entries);
+    }
+}

@@ -1,0 +1,4 @@
+pub mod OfKind
+pub mod Steps
+pub mod Grammar
+pub mod Callers
