@@ -3,17 +3,16 @@ use mathlib.Core.Path.{_≡_, refl, sym, _∙_, ap, subst}
 use mathlib.Core.Bool.{Bool, true, false, cond}
 use mathlib.Core.List.{List, [], _∷_}
 use mathlib.Core.Logic.{_⊎_, inl, inr}
-use Prim.Native.Nat.{ℕ, zero, suc, _+_, _-_, _<_, _≤_}
+use Prim.Native.Nat.{ℕ, zero, suc, _+_, _<_, _≤_}
 use native.Mathlib.Omega.{arith}
-use lib.Dec.{leb, ltb}
-use lib.ListN.{length, getD}
-use Rattle.std.proofs.shelf.Tests.{cases-lt, leb-true, leb-false, le-leb, lt-leb}
+use lib.Dec.{leb}
+use lib.ListN.{length}
+use Rattle.std.proofs.shelf.Tests.{cases-lt, leb-true, le-leb, lt-leb}
 use Rattle.book.specs.declared.Mark.{Mark}
 use Rattle.book.specs.declared.Mark.the-variants.{Open, Yes, No}
 use Rattle.book.specs.declared.Answer.{Answer}
 use Rattle.book.specs.declared.Answer.the-variants.{Yes as AnswerYes, No as AnswerNo}
-use Rattle.book.specs.declared.Reading.{Reading}
-use Rattle.book.specs.declared.Reading.the-variants.{Broken, Quiet, Forced}
+use Rattle.book.specs.declared.Reading.the-variants.{Quiet, Forced}
 use Rattle.book.specs.Books.{mark-of, open-mark, Extends}
 use Rattle.rules.specs.Rules.{Item, choice, count, mark-at, is-yes, yeses, both, either, holds}
 use Rattle.rule_book.specs.declared.Status.{Status}

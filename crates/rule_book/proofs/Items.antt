@@ -2,18 +2,17 @@
 use mathlib.Core.Path.{_≡_, refl, sym, _∙_, ap, subst}
 use mathlib.Core.Bool.{Bool, true, false, cond}
 use mathlib.Core.List.{List, [], _∷_}
-use mathlib.Core.Logic.{_⊎_, inl, inr}
-use Prim.Native.Nat.{ℕ, suc, _+_, _<_, _≤_}
+use Prim.Native.Nat.{ℕ, suc, _+_}
 use native.Mathlib.Omega.{arith}
 use lib.Dec.{leb}
-use Rattle.std.proofs.shelf.Tests.{leb-true, leb-false}
+use Rattle.std.proofs.shelf.Tests.{leb-false}
 use Rattle.book.specs.declared.Mark.{Mark}
 use Rattle.book.specs.declared.Mark.the-variants.{Open, Yes, No}
 use Rattle.book.specs.Books.{Settled}
 use Rattle.rules.specs.Rules.{Item, choice, count, mark-at, yeses, both, either, holds, all-hold, some-holds}
 use Rattle.rule_book.specs.declared.Status.{Status}
 use Rattle.rule_book.specs.declared.Status.the-variants.{Sure, Lost, Unsure}
-use Rattle.rule_book.specs.Readings.{mark-status, opens, count-status, status, is-sure, is-lost, is-unsure, some-sure, some-lost, unsure-items}
+use Rattle.rule_book.specs.Readings.{opens, count-status, status, is-sure, is-lost, is-unsure, some-sure, some-lost, unsure-items}
 use Rattle.rule_book.proofs.Marks.{settled-at}
 use Rattle.rule_book.proofs.Grown.{Grows, open-step, sure-holds, lost-not, unsure-open, true-false}
 

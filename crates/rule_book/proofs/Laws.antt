@@ -1,5 +1,5 @@
 -- The reading of rules keeps the laws of books.
-use mathlib.Core.Path.{_≡_, refl, sym, _∙_, ap, subst}
+use mathlib.Core.Path.{_≡_, refl, sym, _∙_, ap}
 use mathlib.Core.Bool.{Bool, true, false, cond}
 use mathlib.Core.List.{List, [], _∷_}
 use mathlib.Core.Logic.{_⊎_, inl, inr}
@@ -16,9 +16,8 @@ use Rattle.book.specs.declared.Reading.{Reading}
 use Rattle.book.specs.declared.Reading.the-variants.{Broken, Quiet, Forced}
 use Rattle.book.specs.Books.{mark-of, Extends, Settled, Laws}
 use Rattle.rules.specs.Rules.{Item, choice, count, Rule, mark-at, is-yes, yeses, both, either, holds, all-hold, some-holds, Kept, AllKept}
-use Rattle.rule_book.specs.declared.Status.the-variants.{Unsure}
 use Rattle.rule_book.specs.declared.Role.the-variants.{Body, Head}
-use Rattle.rule_book.specs.Readings.{opens, status, some-sure, some-lost, unsure-items, first-open, body-pressed, head-pressed, pressed, rule-reading, first-loud, rules-reading}
+use Rattle.rule_book.specs.Readings.{opens, some-sure, some-lost, unsure-items, first-open, body-pressed, head-pressed, pressed, rule-reading, first-loud, rules-reading}
 use Rattle.rule_book.specs.Meaning.{Allowed}
 use Rattle.rule_book.proofs.Fold.{pressed-broken}
 use Rattle.rule_book.proofs.Marks.{mark-at-in, open-in, settled-at}

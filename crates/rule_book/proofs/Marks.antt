@@ -1,13 +1,13 @@
 -- What the mark of a choice is, by place.
 use mathlib.Core.Path.{_≡_, refl, sym, _∙_}
 use mathlib.Core.List.{List, [], _∷_}
-use mathlib.Core.Logic.{_⊎_, inl, inr}
+use mathlib.Core.Logic.{inl, inr}
 use Prim.Native.Nat.{ℕ, zero, suc, _-_, _<_, _≤_}
 use native.Mathlib.Omega.{arith}
 use lib.ListN.{length, getD, List·getD-eq-default}
 use Rattle.std.proofs.shelf.Tests.{cases-lt}
 use Rattle.book.specs.declared.Mark.{Mark}
-use Rattle.book.specs.declared.Mark.the-variants.{Open, Yes, No}
+use Rattle.book.specs.declared.Mark.the-variants.{Open, No}
 use Rattle.book.specs.Books.{Settled}
 use Rattle.rules.specs.Rules.{mark-at}
 

@@ -1,6 +1,5 @@
 -- A rule's reading item by item: how the code finds it. That this is `rule-reading` is proved in proofs/Fold.antt.
 use mathlib.Core.List.{List, [], _∷_}
-use Prim.Native.Nat.{ℕ}
 use Rattle.book.specs.declared.Mark.{Mark}
 use Rattle.book.specs.declared.Answer.{Answer}
 use Rattle.book.specs.declared.Answer.the-variants.{Yes as AnswerYes, No as AnswerNo}

@@ -1,12 +1,9 @@
-//! The book of a rule file's rules, over storage that the caller lends.
+//! The book of a rule file's rules. The caller lends the storage that they stand in.
 //!
 //! A rule speaks up once its items, but for one at most, are decided: broken if nothing is left to keep it, forced if one
 //! open choice alone can. specs/Readings.antt has the reading in full.
 ghost use mathlib.Core.Path.{_≡_};
-ghost use mathlib.Core.List.{List};
-ghost use Prim.Native.Nat.{ℕ, _+_, _-_, _<_, _≤_};
-ghost use lib.ListN.{length};
-ghost use denote.Ref.{now};
+ghost use Prim.Native.Nat.{ℕ, _+_};
 ghost use Rattle.rules.specs.Rules.{choice as choice-item, count as count-item, mark-at, yeses};
 ghost use Rattle.rules.specs.Storage.{run, choices as choice-items, side-items, rule-of};
 ghost use Rattle.rule_book.specs.Readings.{opens, count-status, first-open, count-pressed, rule-reading, rules-reading};
@@ -58,7 +55,7 @@ struct Tally {
     most: usize,
 }
 
-/// The mark of a choice; no for what is none.
+/// The mark of a choice; what is no choice of the sheet counts as no.
 fn mark_at(marks: &[Mark], choice: u16) -> Mark
     ensures { λ r. ⌜ r ≡ mark-at (now (marks .entry)) choice ⌝ }
 {
@@ -160,7 +157,7 @@ fn weigh_choice(role: Role, choice: u16, marks: &[Mark], before: Reading) -> Rea
         (Role::Body, Mark::No) | (Role::Head, Mark::Yes) => Reading::Quiet,
         (_, Mark::Open) => match before {
             Reading::Broken => Reading::Forced(choice, role.answer()),
-            Reading::Quiet | Reading::Forced(..) => Reading::Quiet,
+            _ => Reading::Quiet,
         },
     }
 }
@@ -181,7 +178,7 @@ fn weigh_count(
         (Role::Body, Status::Lost | Status::Unsure) | (Role::Head, Status::Sure) => Reading::Quiet,
         (Role::Head, Status::Unsure) => match before {
             Reading::Broken => press_count(row, tally, marks, choices),
-            Reading::Quiet | Reading::Forced(..) => Reading::Quiet,
+            _ => Reading::Quiet,
         },
     }
 }
@@ -310,3 +307,6 @@ pub impl<'a> Book for RuleBook<'a> as RuleBookBook {
         Ok(self.reading(marks))
     }
 }
+
+#[cfg(test)]
+mod tests;

@@ -45,7 +45,7 @@ pub struct Tally {
 }
 
 impl Tally {
-    pub fn new() -> Tally
+    pub(super) fn new() -> Tally
         ensures { λ r. ⌜ r ≡ record { declared = 0; rules = 0; counts = 0; entries = 0 } ⌝ }
     {
         Tally {
@@ -104,7 +104,7 @@ fn surplus(scanner: &mut Scanner, line: &mut LineReader, tally: &mut Tally, plac
 }
 
 /// The next part of a file, or the fault that is told of it.
-pub fn next_part(
+pub(super) fn next_part(
     scanner: &mut Scanner,
     line: &mut LineReader,
     tally: &mut Tally,

@@ -113,7 +113,12 @@ impl Filler {
 }
 
 /// Fills the storage from a file that has no fault.
-pub fn fill(bytes: &[u8], rules: &mut [RuleRow], counts: &mut [CountRow], entries: &mut [u16]) {
+pub(super) fn fill(
+    bytes: &[u8],
+    rules: &mut [RuleRow],
+    counts: &mut [CountRow],
+    entries: &mut [u16],
+) {
     let mut scanner = Scanner::new(bytes);
     let mut line = LineReader::new();
     let mut tally = Tally::new();

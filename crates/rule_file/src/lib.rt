@@ -4,6 +4,7 @@ mod file;
 mod fill;
 mod line;
 
+pub use fault::Fault;
 pub use fault::FaultFromLine;
 pub use fault::FileCause;
 pub use fault::FileFault;
@@ -11,7 +12,6 @@ pub use fault::LineCause;
 pub use fault::LineFault;
 pub use fault::LineFaultFromScan;
 pub use fault::RefusalFromFile;
+pub use fault::RefusalFromLine;
 pub use file::Extent;
 pub use file::read_file;
-pub use line::LineReader;
-pub use line::Part;

@@ -79,7 +79,7 @@ pub struct LineReader {
 }
 
 impl LineReader {
-    pub fn new() -> LineReader {
+    pub(super) fn new() -> LineReader {
         LineReader {
             state: State::Start,
             size: SheetSize::zero(),
@@ -88,14 +88,14 @@ impl LineReader {
     }
 
     /// How many choices there are, once the header is read.
-    pub fn size(&self) -> SheetSize
+    pub(super) fn size(&self) -> SheetSize
         ensures { λ r. ⌜ r ≡ now (self .entry) .size ⌝ }
     {
         self.size
     }
 
     /// What the next token is there for, with its place.
-    pub fn next_part(&mut self, scanner: &mut Scanner) -> Result<(usize, Part), LineFault>
+    pub(super) fn next_part(&mut self, scanner: &mut Scanner) -> Result<(usize, Part), LineFault>
         ensures nearer { λ r. ⌜ Nearer (now (scanner .entry)) (now (scanner .exit)) r ⌝ }
     {
         let (place, token) = scanner.next_token()?;
@@ -106,7 +106,7 @@ impl LineReader {
     }
 
     /// Takes one token more.
-    pub fn step(&mut self, token: Token) -> Result<Part, LineCause>
+    pub(super) fn step(&mut self, token: Token) -> Result<Part, LineCause>
         ensures { λ r. ⌜ Stepped (now (self .entry)) token (now (self .exit)) r ⌝ }
     {
         let Some((part, next)) = self.part(token) else {

@@ -1,6 +1,5 @@
-use mathlib.Core.Path.{_≡_, sym, _∙_, ap}
+use mathlib.Core.Path.{sym, _∙_, ap}
 use mathlib.Core.Bool.{true, false}
-use lib.ListN.{getD}
 use Rattle.book.specs.Books.{open-mark}
 use Rattle.rules.specs.Rules.{mark-at}
 use Rattle.rule_book.proofs.Steps.{first-more, first-all}

@@ -1,4 +1,3 @@
-use mathlib.Core.Path.{refl}
 use native.Mathlib.Omega.{arith}
 use Rattle.rule_book.proofs.Marks.{mark-at-in, mark-at-none}
 use Rattle.rule_book.proofs.mark_at.Needs as need

@@ -1,720 +1,104 @@
-use Rattle.rule_book.proofs.Laws.{rule-laws}
+-- The block meets its trait. Rattle writes this proof itself where the trait has no law or the block no lifetime; here the
+-- law stands beside what it writes then: each method meets its own contract, whose clauses are the trait's.
+use mathlib.Core.Path.{refl}
+use mathlib.Core.Bool.{true}
+use mathlib.Core.List.{[]}
+use Prim.Native.Nat.{ℕ}
+use base.Logic.{emp, id⊢}
+use contract.BorrowLft.{⊑-refl, ⊑-trans}
+use contract.Running.{givenOf, within}
+use denote.Param.{layouts}
+use denote.Ref.{NamedLft}
+use denote.Triple.End.{outs}
+use denote.Triple.Impl.{implements, insides-in, hidden, to-emp, inside}
+use denote.Triple.Less.{less}
+use denote.Triple.Spec.{tripleOf}
+use denote.Triple.Table.{run-framed, widened}
+use mir.Syntax.{Callee, erased, method}
+use Rattle.book.specs.contracts.Book.KIND as kind·trait
+use Rattle.book.specs.contracts.Book.kind_number as number·trait
+use Rattle.book.specs.contracts.Book.choices as choices·trait
+use Rattle.book.specs.contracts.Book.read as read·trait
+use Rattle.rule_book.specs.contracts.RuleBookBook.KIND as kind·own
+use Rattle.rule_book.specs.contracts.RuleBookBook.kind_number as number·own
+use Rattle.rule_book.specs.contracts.RuleBookBook.choices as choices·own
+use Rattle.rule_book.specs.contracts.RuleBookBook.read as read·own
+use Rattle.rule_book.proofs.RuleBookBook.KIND.Symbol as kind·symbol
+use Rattle.rule_book.proofs.RuleBookBook.kind_number.Symbol as number·symbol
+use Rattle.rule_book.proofs.RuleBookBook.choices.Symbol as choices·symbol
+use Rattle.rule_book.proofs.RuleBookBook.read.Symbol as read·symbol
+use Rattle.rule_book.proofs.RuleBookBook.KIND.Met as kind·met
+use Rattle.rule_book.proofs.RuleBookBook.kind_number.Met as number·met
+use Rattle.rule_book.proofs.RuleBookBook.choices.Met as choices·met
+use Rattle.rule_book.proofs.RuleBookBook.read.Met as read·met
+use Rattle.rule_book.specs.contracts.RuleBook as book
+use Rattle.rule_book.specs.contracts.RuleBookBook.the-impl.{ghosts, dict}
 use Rattle.rule_book.specs.Meaning.{rules-of, size-of}
-use Rattle.book.specs.contracts.Book.KIND
-use Rattle.book.specs.contracts.Book.choices
-use Rattle.book.specs.contracts.Book.kind_number
-use Rattle.book.specs.contracts.Book.read
-use Rattle.rule_book.proofs.RuleBookBook.KIND.Met
-use Rattle.rule_book.proofs.RuleBookBook.KIND.Symbol
-use Rattle.rule_book.proofs.RuleBookBook.choices.Met as Met'
-use Rattle.rule_book.proofs.RuleBookBook.choices.Symbol as Symbol'
-use Rattle.rule_book.proofs.RuleBookBook.kind_number.Met as Met''
-use Rattle.rule_book.proofs.RuleBookBook.kind_number.Symbol as Symbol''
-use Rattle.rule_book.proofs.RuleBookBook.read.Met as Met'3
-use Rattle.rule_book.proofs.RuleBookBook.read.Symbol as Symbol'3
-use Rattle.rule_book.proofs.RuleBookBook.the-impl.Statement
-use Rattle.rule_book.specs.contracts.RuleBook
-use Rattle.rule_book.specs.contracts.RuleBookBook.KIND as KIND'
-use Rattle.rule_book.specs.contracts.RuleBookBook.choices as choices'
-use Rattle.rule_book.specs.contracts.RuleBookBook.kind_number as «kind_number'»
-use Rattle.rule_book.specs.contracts.RuleBookBook.read as read'
-use Rattle.rule_book.specs.contracts.RuleBookBook.the-impl
-use base.Logic
-use contract.BorrowLft
-use contract.Running
-use denote.Param
-use denote.Ref
-use denote.Triple.End
-use denote.Triple.Impl
-use denote.Triple.Less
-use denote.Triple.Spec
-use denote.Triple.Table
-use mathlib.Core.Bool
-use mathlib.Core.List
-use mathlib.Core.Path as Path'
-use mir.Syntax
+use Rattle.rule_book.proofs.Laws.{rule-laws}
+use Rattle.rule_book.proofs.RuleBookBook.the-impl.Statement.{statement}
 
-ruleset ends = (Logic.id⊢, Impl.to-emp, Less.less)
+ruleset ends = (id⊢, to-emp, less)
 
-ruleset parts = (
-  BorrowLft.⊑-refl,
-  BorrowLft.⊑-static,
-  BorrowLft.⊑-meet,
-  Impl.in-left,
-  Impl.in-right,
-)
+abbrev key : ℕ → Callee
+key i = method dict i (layouts [] tt)
 
-pub bound : Statement.statement
-bound = λ γ″' x'6 x'7 x'8 x'9 x'10 M' 𝓤' H' 𝓜' 𝓖' 𝓡'. let x'11 : Ref.NamedLft = record {
-  mir = Syntax.erased;
-  lft = x'10;
-} in record {
-  lawful = λ b. rule-laws (size-of b) (rules-of b) (b .size .small);
-  KIND = Impl.implements
-      𝓤'
-      H'
-      (𝓖' .A)
-      KIND'.signature
-      1
-      (KIND.ended (RuleBook.the-row x'11) the-impl.ghosts the-impl.dict .signature .outlives)
-      (λ τs'. tt)
-      (Running.givenOf 𝓤' H' 𝓜' 𝓖')
-      (𝓡' .run (γ″' (Syntax.method the-impl.dict 0 (Param.layouts List.[] tt))))
-      (Table.run-framed
-      𝓤'
-      H'
-      𝓜'
-      𝓡'
-      (γ″' (Syntax.method the-impl.dict 0 (Param.layouts List.[] tt))))
-      (KIND'.spec 𝓤' H' (𝓖' .A) (𝓜' .mem) (𝓡' .returns))
-      (λ τs'' a'. record {
-        ghost = KIND.spec
-            (RuleBook.the-row x'11)
-            the-impl.ghosts
-            the-impl.dict
-            𝓤'
-            H'
-            (𝓖' .A)
-            (𝓜' .mem)
-            (𝓡' .returns)
-            τs''
-            a' .ghost;
-        requires = λ y'. KIND.spec
-            (RuleBook.the-row x'11)
-            the-impl.ghosts
-            the-impl.dict
-            𝓤'
-            H'
-            (𝓖' .A)
-            (𝓜' .mem)
-            (𝓡' .returns)
-            τs''
-            a' .requires
-            y';
-        ensures = KIND.spec
-            (RuleBook.the-row x'11)
-            the-impl.ghosts
-            the-impl.dict
-            𝓤'
-            H'
-            (𝓖' .A)
-            (𝓜' .mem)
-            (𝓡' .returns)
-            τs''
-            a' .ensures;
-      })
-      1
-      (λ τs'3. (τs'3 .0, tt))
-      (λ τs'4. (RuleBook.the-row x'11 .lives, tt))
-      tt
-      (λ τs'5 a'' y''. Logic.emp 𝓤')
-      (λ τs'6 a'3 y'3. Logic.id⊢
-      𝓤'
-      (KIND.spec
-      (RuleBook.the-row x'11)
-      the-impl.ghosts
-      the-impl.dict
-      𝓤'
-      H'
-      (𝓖' .A)
-      (𝓜' .mem)
-      (𝓡' .returns)
-      τs'6
-      a'3 .requires
-      y'3))
-      (λ τs'7 h'. (tt, tt))
-      (λ τs'8 a'4 y'4. y'4)
-      (λ τs'9 h'' a'5 y'5. Impl.insides-in 𝓤' 0 tt tt (Logic.emp 𝓤') tt)
-      (λ τs'10 a'6 y'6 r'. Impl.hidden
-      0
-      tt
-      𝓤'
-      H'
-      (𝓖' .A)
-      (KIND'.signature .params)
-      (KIND'.ended .kept)
-      tt
-      a'6
-      (λ ws'. KIND'.clauses
-      𝓤'
-      H'
-      (𝓖' .A)
-      (𝓜' .mem)
-      (𝓡' .returns)
-      tt
-      a'6 .ensures
-      y'6
-      r'
-      (End.outs {n = 0} tt (KIND'.ended .signature .params) (KIND'.ended .kept) a'6 ws'))
-      (λ ws''. KIND.clauses
-      (RuleBook.the-row x'11)
-      the-impl.ghosts
-      the-impl.dict
-      𝓤'
-      H'
-      (𝓖' .A)
-      (𝓜' .mem)
-      (𝓡' .returns)
-      τs'10
-      a'6 .ensures
-      y'6
-      r'
-      (End.outs {n = 1}
-      τs'10
-      (KIND.ended (RuleBook.the-row x'11) the-impl.ghosts the-impl.dict .signature .params)
-      (KIND.ended (RuleBook.the-row x'11) the-impl.ghosts the-impl.dict .kept)
-      a'6
-      ws''))
-      λ x'12. search ends depth 24 fits 20000)
-      (Table.widened
-      𝓤'
-      H'
-      (Spec.tripleOf
-      𝓤'
-      H'
-      (𝓖' .A)
-      KIND'.signature
-      (KIND'.spec 𝓤' H' (𝓖' .A) (𝓜' .mem) (𝓡' .returns)))
-      𝓜'
-      𝓡'
-      γ″'
-      (γ″' Symbol.name)
-      (γ″' (Syntax.method the-impl.dict 0 (Param.layouts List.[] tt)))
-      (Symbol.as-method
-      γ″'
-      x'6
-      (Syntax.method the-impl.dict 0 (Param.layouts List.[] tt))
-      Path'.refl)
-      (Met.met 𝓤' H' 𝓜' 𝓖' (Running.within 𝓤' H' 𝓜' 𝓡' γ″') x'6));
-  «kind_number» = Impl.implements
-      𝓤'
-      H'
-      (𝓖' .A)
-      kind_number'.signature
-      2
-      (kind_number.ended
-      (RuleBook.the-row x'11)
-      the-impl.ghosts
-      the-impl.dict .signature .outlives)
-      (λ τs'11. (τs'11 .0, (x'11 .lft, tt)))
-      (Running.givenOf 𝓤' H' 𝓜' 𝓖')
-      (𝓡' .run (γ″' (Syntax.method the-impl.dict 1 (Param.layouts List.[] tt))))
-      (Table.run-framed
-      𝓤'
-      H'
-      𝓜'
-      𝓡'
-      (γ″' (Syntax.method the-impl.dict 1 (Param.layouts List.[] tt))))
-      (kind_number'.spec 𝓤' H' (𝓖' .A) (𝓜' .mem) (𝓡' .returns))
-      (λ τs'12 a'7. record {
-        ghost = kind_number.spec
-            (RuleBook.the-row x'11)
-            the-impl.ghosts
-            the-impl.dict
-            𝓤'
-            H'
-            (𝓖' .A)
-            (𝓜' .mem)
-            (𝓡' .returns)
-            τs'12
-            a'7 .ghost;
-        requires = λ y'7. kind_number.spec
-            (RuleBook.the-row x'11)
-            the-impl.ghosts
-            the-impl.dict
-            𝓤'
-            H'
-            (𝓖' .A)
-            (𝓜' .mem)
-            (𝓡' .returns)
-            τs'12
-            a'7 .requires
-            y'7;
-        ensures = kind_number.spec
-            (RuleBook.the-row x'11)
-            the-impl.ghosts
-            the-impl.dict
-            𝓤'
-            H'
-            (𝓖' .A)
-            (𝓜' .mem)
-            (𝓡' .returns)
-            τs'12
-            a'7 .ensures;
-      })
-      1
-      (λ τs'13. (τs'13 .1 .0, tt))
-      (λ τs'14. (RuleBook.the-row x'11 .lives, tt))
-      ((0, tt), ((1, tt), tt))
-      (λ τs'15 a'8 y'8. Logic.emp 𝓤')
-      (λ τs'16 a'9 y'9. Logic.id⊢
-      𝓤'
-      (kind_number.spec
-      (RuleBook.the-row x'11)
-      the-impl.ghosts
-      the-impl.dict
-      𝓤'
-      H'
-      (𝓖' .A)
-      (𝓜' .mem)
-      (𝓡' .returns)
-      τs'16
-      a'9 .requires
-      y'9))
-      (λ τs'17 h'3. (
-        (
-          BorrowLft.⊑-refl (τs'17 .0),
-          (
-            BorrowLft.⊑-trans
-                (τs'17 .1 .0)
-                (τs'17 .1 .0)
-                (x'11 .lft)
-                (BorrowLft.⊑-refl (τs'17 .1 .0))
-                (BorrowLft.⊑-trans
-                (τs'17 .1 .0)
-                (RuleBook.the-row x'11 .lives)
-                (x'11 .lft)
-                (h'3 .1 .0)
-                (search Impl.inside depth 24 fits 20000)),
-            tt,
-          ),
-        ),
-        (
-          BorrowLft.⊑-trans
-              (τs'17 .0)
-              (τs'17 .1 .0)
-              (x'11 .lft)
-              (BorrowLft.⊑-trans
-              (τs'17 .0)
-              (τs'17 .0)
-              (τs'17 .1 .0)
-              (BorrowLft.⊑-refl (τs'17 .0))
-              (h'3 .0 .0))
-              (BorrowLft.⊑-trans
-              (τs'17 .1 .0)
-              (RuleBook.the-row x'11 .lives)
-              (x'11 .lft)
-              (h'3 .1 .0)
-              (search Impl.inside depth 24 fits 20000)),
-          tt,
-        ),
-      ))
-      (λ τs'18 a'10 y'10. y'10)
-      (λ τs'19 h'4 a'11 y'11. Impl.insides-in 𝓤' 0 tt tt (Logic.emp 𝓤') tt)
-      (λ τs'20 a'12 y'12 r''. Impl.hidden
-      2
-      (τs'20 .0, (x'11 .lft, tt))
-      𝓤'
-      H'
-      (𝓖' .A)
-      (kind_number'.signature .params)
-      (kind_number'.ended .kept)
-      (Bool.true, tt)
-      a'12
-      (λ ws'3. kind_number'.clauses 𝓤' H' (𝓖' .A) (𝓜' .mem) (𝓡' .returns) (
-        τs'20 .0,
-        (x'11 .lft, tt),
-      )
-      a'12 .ensures
-      y'12
-      r''
-      (End.outs {n = 2}
-      (τs'20 .0, (x'11 .lft, tt))
-      (kind_number'.ended .signature .params)
-      (kind_number'.ended .kept)
-      a'12
-      ws'3))
-      (λ ws'4. kind_number.clauses
-      (RuleBook.the-row x'11)
-      the-impl.ghosts
-      the-impl.dict
-      𝓤'
-      H'
-      (𝓖' .A)
-      (𝓜' .mem)
-      (𝓡' .returns)
-      τs'20
-      a'12 .ensures
-      y'12
-      r''
-      (End.outs {n = 2}
-      τs'20
-      (kind_number.ended (RuleBook.the-row x'11) the-impl.ghosts the-impl.dict .signature .params)
-      (kind_number.ended (RuleBook.the-row x'11) the-impl.ghosts the-impl.dict .kept)
-      a'12
-      ws'4))
-      λ x'13. search ends depth 24 fits 20000)
-      (Table.widened
-      𝓤'
-      H'
-      (Spec.tripleOf
-      𝓤'
-      H'
-      (𝓖' .A)
-      kind_number'.signature
-      (kind_number'.spec 𝓤' H' (𝓖' .A) (𝓜' .mem) (𝓡' .returns)))
-      𝓜'
-      𝓡'
-      γ″'
-      (γ″' Symbol''.name)
-      (γ″' (Syntax.method the-impl.dict 1 (Param.layouts List.[] tt)))
-      (Symbol''.as-method
-      γ″'
-      x'7
-      (Syntax.method the-impl.dict 1 (Param.layouts List.[] tt))
-      Path'.refl)
-      (Met''.met 𝓤' H' 𝓜' 𝓖' (Running.within 𝓤' H' 𝓜' 𝓡' γ″') x'7));
-  choices = Impl.implements
-      𝓤'
-      H'
-      (𝓖' .A)
-      choices'.signature
-      2
-      (choices.ended (RuleBook.the-row x'11) the-impl.ghosts the-impl.dict .signature .outlives)
-      (λ τs'21. (τs'21 .0, (x'11 .lft, tt)))
-      (Running.givenOf 𝓤' H' 𝓜' 𝓖')
-      (𝓡' .run (γ″' (Syntax.method the-impl.dict 2 (Param.layouts List.[] tt))))
-      (Table.run-framed
-      𝓤'
-      H'
-      𝓜'
-      𝓡'
-      (γ″' (Syntax.method the-impl.dict 2 (Param.layouts List.[] tt))))
-      (choices'.spec 𝓤' H' (𝓖' .A) (𝓜' .mem) (𝓡' .returns))
-      (λ τs'22 a'13. record {
-        ghost = choices.spec
-            (RuleBook.the-row x'11)
-            the-impl.ghosts
-            the-impl.dict
-            𝓤'
-            H'
-            (𝓖' .A)
-            (𝓜' .mem)
-            (𝓡' .returns)
-            τs'22
-            a'13 .ghost;
-        requires = λ y'13. choices.spec
-            (RuleBook.the-row x'11)
-            the-impl.ghosts
-            the-impl.dict
-            𝓤'
-            H'
-            (𝓖' .A)
-            (𝓜' .mem)
-            (𝓡' .returns)
-            τs'22
-            a'13 .requires
-            y'13;
-        ensures = choices.spec
-            (RuleBook.the-row x'11)
-            the-impl.ghosts
-            the-impl.dict
-            𝓤'
-            H'
-            (𝓖' .A)
-            (𝓜' .mem)
-            (𝓡' .returns)
-            τs'22
-            a'13 .ensures;
-      })
-      1
-      (λ τs'23. (τs'23 .1 .0, tt))
-      (λ τs'24. (RuleBook.the-row x'11 .lives, tt))
-      ((0, tt), ((1, tt), tt))
-      (λ τs'25 a'14 y'14. Logic.emp 𝓤')
-      (λ τs'26 a'15 y'15. Logic.id⊢
-      𝓤'
-      (choices.spec
-      (RuleBook.the-row x'11)
-      the-impl.ghosts
-      the-impl.dict
-      𝓤'
-      H'
-      (𝓖' .A)
-      (𝓜' .mem)
-      (𝓡' .returns)
-      τs'26
-      a'15 .requires
-      y'15))
-      (λ τs'27 h'5. (
-        (
-          BorrowLft.⊑-refl (τs'27 .0),
-          (
-            BorrowLft.⊑-trans
-                (τs'27 .1 .0)
-                (τs'27 .1 .0)
-                (x'11 .lft)
-                (BorrowLft.⊑-refl (τs'27 .1 .0))
-                (BorrowLft.⊑-trans
-                (τs'27 .1 .0)
-                (RuleBook.the-row x'11 .lives)
-                (x'11 .lft)
-                (h'5 .1 .0)
-                (search Impl.inside depth 24 fits 20000)),
-            tt,
-          ),
-        ),
-        (
-          BorrowLft.⊑-trans
-              (τs'27 .0)
-              (τs'27 .1 .0)
-              (x'11 .lft)
-              (BorrowLft.⊑-trans
-              (τs'27 .0)
-              (τs'27 .0)
-              (τs'27 .1 .0)
-              (BorrowLft.⊑-refl (τs'27 .0))
-              (h'5 .0 .0))
-              (BorrowLft.⊑-trans
-              (τs'27 .1 .0)
-              (RuleBook.the-row x'11 .lives)
-              (x'11 .lft)
-              (h'5 .1 .0)
-              (search Impl.inside depth 24 fits 20000)),
-          tt,
-        ),
-      ))
-      (λ τs'28 a'16 y'16. y'16)
-      (λ τs'29 h'6 a'17 y'17. Impl.insides-in 𝓤' 0 tt tt (Logic.emp 𝓤') tt)
-      (λ τs'30 a'18 y'18 r'3. Impl.hidden
-      2
-      (τs'30 .0, (x'11 .lft, tt))
-      𝓤'
-      H'
-      (𝓖' .A)
-      (choices'.signature .params)
-      (choices'.ended .kept)
-      (Bool.true, tt)
-      a'18
-      (λ ws'5. choices'.clauses
-      𝓤'
-      H'
-      (𝓖' .A)
-      (𝓜' .mem)
-      (𝓡' .returns)
-      (τs'30 .0, (x'11 .lft, tt))
-      a'18 .ensures
-      y'18
-      r'3
-      (End.outs {n = 2}
-      (τs'30 .0, (x'11 .lft, tt))
-      (choices'.ended .signature .params)
-      (choices'.ended .kept)
-      a'18
-      ws'5))
-      (λ ws'6. choices.clauses
-      (RuleBook.the-row x'11)
-      the-impl.ghosts
-      the-impl.dict
-      𝓤'
-      H'
-      (𝓖' .A)
-      (𝓜' .mem)
-      (𝓡' .returns)
-      τs'30
-      a'18 .ensures
-      y'18
-      r'3
-      (End.outs {n = 2}
-      τs'30
-      (choices.ended (RuleBook.the-row x'11) the-impl.ghosts the-impl.dict .signature .params)
-      (choices.ended (RuleBook.the-row x'11) the-impl.ghosts the-impl.dict .kept)
-      a'18
-      ws'6))
-      λ x'14. search ends depth 24 fits 20000)
-      (Table.widened
-      𝓤'
-      H'
-      (Spec.tripleOf
-      𝓤'
-      H'
-      (𝓖' .A)
-      choices'.signature
-      (choices'.spec 𝓤' H' (𝓖' .A) (𝓜' .mem) (𝓡' .returns)))
-      𝓜'
-      𝓡'
-      γ″'
-      (γ″' Symbol'.name)
-      (γ″' (Syntax.method the-impl.dict 2 (Param.layouts List.[] tt)))
-      (Symbol'.as-method
-      γ″'
-      x'8
-      (Syntax.method the-impl.dict 2 (Param.layouts List.[] tt))
-      Path'.refl)
-      (Met'.met 𝓤' H' 𝓜' 𝓖' (Running.within 𝓤' H' 𝓜' 𝓡' γ″') x'8));
-  read = Impl.implements
-      𝓤'
-      H'
-      (𝓖' .A)
-      read'.signature
-      3
-      (read.ended (RuleBook.the-row x'11) the-impl.ghosts the-impl.dict .signature .outlives)
-      (λ τs'31. (τs'31 .0, (x'11 .lft, (τs'31 .1 .0, tt))))
-      (Running.givenOf 𝓤' H' 𝓜' 𝓖')
-      (𝓡' .run (γ″' (Syntax.method the-impl.dict 3 (Param.layouts List.[] tt))))
-      (Table.run-framed
-      𝓤'
-      H'
-      𝓜'
-      𝓡'
-      (γ″' (Syntax.method the-impl.dict 3 (Param.layouts List.[] tt))))
-      (read'.spec 𝓤' H' (𝓖' .A) (𝓜' .mem) (𝓡' .returns))
-      (λ τs'32 a'19. record {
-        ghost = read.spec
-            (RuleBook.the-row x'11)
-            the-impl.ghosts
-            the-impl.dict
-            𝓤'
-            H'
-            (𝓖' .A)
-            (𝓜' .mem)
-            (𝓡' .returns)
-            τs'32
-            a'19 .ghost;
-        requires = λ y'19. read.spec
-            (RuleBook.the-row x'11)
-            the-impl.ghosts
-            the-impl.dict
-            𝓤'
-            H'
-            (𝓖' .A)
-            (𝓜' .mem)
-            (𝓡' .returns)
-            τs'32
-            a'19 .requires
-            y'19;
-        ensures = read.spec
-            (RuleBook.the-row x'11)
-            the-impl.ghosts
-            the-impl.dict
-            𝓤'
-            H'
-            (𝓖' .A)
-            (𝓜' .mem)
-            (𝓡' .returns)
-            τs'32
-            a'19 .ensures;
-      })
-      1
-      (λ τs'33. (τs'33 .1 .1 .0, tt))
-      (λ τs'34. (RuleBook.the-row x'11 .lives, tt))
-      ((0, tt), ((2, tt), ((1, tt), tt)))
-      (λ τs'35 a'20 y'20. Logic.emp 𝓤')
-      (λ τs'36 a'21 y'21. Logic.id⊢
-      𝓤'
-      (read.spec
-      (RuleBook.the-row x'11)
-      the-impl.ghosts
-      the-impl.dict
-      𝓤'
-      H'
-      (𝓖' .A)
-      (𝓜' .mem)
-      (𝓡' .returns)
-      τs'36
-      a'21 .requires
-      y'21))
-      (λ τs'37 h'7. (
-        (
-          BorrowLft.⊑-refl (τs'37 .0),
-          (
-            BorrowLft.⊑-trans
-                (τs'37 .1 .1 .0)
-                (τs'37 .1 .1 .0)
-                (x'11 .lft)
-                (BorrowLft.⊑-refl (τs'37 .1 .1 .0))
-                (BorrowLft.⊑-trans
-                (τs'37 .1 .1 .0)
-                (RuleBook.the-row x'11 .lives)
-                (x'11 .lft)
-                (h'7 .1 .0)
-                (search Impl.inside depth 24 fits 20000)),
-            (BorrowLft.⊑-refl (τs'37 .1 .0), tt),
-          ),
-        ),
-        (
-          BorrowLft.⊑-trans
-              (τs'37 .0)
-              (τs'37 .1 .1 .0)
-              (x'11 .lft)
-              (BorrowLft.⊑-trans
-              (τs'37 .0)
-              (τs'37 .0)
-              (τs'37 .1 .1 .0)
-              (BorrowLft.⊑-refl (τs'37 .0))
-              (h'7 .0 .0))
-              (BorrowLft.⊑-trans
-              (τs'37 .1 .1 .0)
-              (RuleBook.the-row x'11 .lives)
-              (x'11 .lft)
-              (h'7 .1 .0)
-              (search Impl.inside depth 24 fits 20000)),
-          tt,
-        ),
-      ))
-      (λ τs'38 a'22 y'22. y'22)
-      (λ τs'39 h'8 a'23 y'23. Impl.insides-in 𝓤' 0 tt tt (Logic.emp 𝓤') tt)
-      (λ τs'40 a'24 y'24 r'4. Impl.hidden
-      3
-      (τs'40 .0, (x'11 .lft, (τs'40 .1 .0, tt)))
-      𝓤'
-      H'
-      (𝓖' .A)
-      (read'.signature .params)
-      (read'.ended .kept)
-      (Bool.true, (Bool.true, tt))
-      a'24
-      (λ ws'7. read'.clauses 𝓤' H' (𝓖' .A) (𝓜' .mem) (𝓡' .returns) (
-        τs'40 .0,
-        (x'11 .lft, (τs'40 .1 .0, tt)),
-      )
-      a'24 .ensures
-      y'24
-      r'4
-      (End.outs {n = 3}
-      (τs'40 .0, (x'11 .lft, (τs'40 .1 .0, tt)))
-      (read'.ended .signature .params)
-      (read'.ended .kept)
-      a'24
-      ws'7))
-      (λ ws'8. read.clauses
-      (RuleBook.the-row x'11)
-      the-impl.ghosts
-      the-impl.dict
-      𝓤'
-      H'
-      (𝓖' .A)
-      (𝓜' .mem)
-      (𝓡' .returns)
-      τs'40
-      a'24 .ensures
-      y'24
-      r'4
-      (End.outs {n = 3}
-      τs'40
-      (read.ended (RuleBook.the-row x'11) the-impl.ghosts the-impl.dict .signature .params)
-      (read.ended (RuleBook.the-row x'11) the-impl.ghosts the-impl.dict .kept)
-      a'24
-      ws'8))
-      λ x'15. search ends depth 24 fits 20000)
-      (Table.widened
-      𝓤'
-      H'
-      (Spec.tripleOf
-      𝓤'
-      H'
-      (𝓖' .A)
-      read'.signature
-      (read'.spec 𝓤' H' (𝓖' .A) (𝓜' .mem) (𝓡' .returns)))
-      𝓜'
-      𝓡'
-      γ″'
-      (γ″' Symbol'3.name)
-      (γ″' (Syntax.method the-impl.dict 3 (Param.layouts List.[] tt)))
-      (Symbol'3.as-method
-      γ″'
-      x'9
-      (Syntax.method the-impl.dict 3 (Param.layouts List.[] tt))
-      Path'.refl)
-      (Met'3.met 𝓤' H' 𝓜' 𝓖' (Running.within 𝓤' H' 𝓜' 𝓡' γ″') x'9));
-}
+pub bound : statement
+bound γ wk wn wc wr κ M 𝓤 H 𝓜 𝓖 𝓡 =
+    let a : NamedLft = record { mir = erased; lft = κ } in
+    let A = 𝓖 .A in
+    let row = book.the-row a in
+    record {
+      lawful = λ b. rule-laws (size-of b) (rules-of b) (b .size .small);
+      KIND =
+          implements 𝓤 H A kind·own.signature 1 (kind·trait.ended row ghosts dict .signature .outlives) (λ τs. tt) (givenOf 𝓤 H 𝓜 𝓖) (𝓡 .run (γ (key 0))) (run-framed 𝓤 H 𝓜 𝓡 (γ (key 0)))
+          (kind·own.spec 𝓤 H A (𝓜 .mem) (𝓡 .returns))
+          (λ τs b. let c = kind·trait.spec row ghosts dict 𝓤 H A (𝓜 .mem) (𝓡 .returns) τs b in record { ghost = c .ghost; requires = c .requires; ensures = c .ensures })
+          1 (λ τs. (τs .0, tt)) (λ τs. (row .lives, tt)) tt (λ τs b g. emp 𝓤)
+          (λ τs b g. id⊢ 𝓤 (kind·trait.spec row ghosts dict 𝓤 H A (𝓜 .mem) (𝓡 .returns) τs b .requires g))
+          (λ τs h. (tt, tt))
+          (λ τs b g. g) (λ τs h b g. insides-in 𝓤 0 tt tt (emp 𝓤) tt)
+          (λ τs b g r. hidden 0 tt 𝓤 H A (kind·own.signature .params) (kind·own.ended .kept) tt b
+          (λ ws. kind·own.clauses 𝓤 H A (𝓜 .mem) (𝓡 .returns) tt b .ensures g r (outs {n = 0} tt (kind·own.ended .signature .params) (kind·own.ended .kept) b ws))
+          (λ ws. kind·trait.clauses row ghosts dict 𝓤 H A (𝓜 .mem) (𝓡 .returns) τs b .ensures g r (outs {n = 1} τs (kind·trait.ended row ghosts dict .signature .params) (kind·trait.ended row ghosts dict .kept) b ws))
+          (λ ws. search ends depth 24 fits 20000))
+          (widened 𝓤 H (tripleOf 𝓤 H A kind·own.signature (kind·own.spec 𝓤 H A (𝓜 .mem) (𝓡 .returns))) 𝓜 𝓡 γ (γ kind·symbol.name) (γ (key 0)) (kind·symbol.as-method γ wk (key 0) refl) (kind·met.met 𝓤 H 𝓜 𝓖 (within 𝓤 H 𝓜 𝓡 γ) wk));
+      «kind_number» =
+          implements 𝓤 H A number·own.signature 2 (number·trait.ended row ghosts dict .signature .outlives) (λ τs. (τs .0, (κ, tt))) (givenOf 𝓤 H 𝓜 𝓖) (𝓡 .run (γ (key 1))) (run-framed 𝓤 H 𝓜 𝓡 (γ (key 1)))
+          (number·own.spec 𝓤 H A (𝓜 .mem) (𝓡 .returns))
+          (λ τs b. let c = number·trait.spec row ghosts dict 𝓤 H A (𝓜 .mem) (𝓡 .returns) τs b in record { ghost = c .ghost; requires = c .requires; ensures = c .ensures })
+          1 (λ τs. (τs .1 .0, tt)) (λ τs. (row .lives, tt)) ((0, tt), ((1, tt), tt)) (λ τs b g. emp 𝓤)
+          (λ τs b g. id⊢ 𝓤 (number·trait.spec row ghosts dict 𝓤 H A (𝓜 .mem) (𝓡 .returns) τs b .requires g))
+          (λ τs h. ((⊑-refl (τs .0), (⊑-trans (τs .1 .0) (row .lives) κ (h .1 .0) (search inside depth 24 fits 20000), tt)), (⊑-trans (τs .0) (τs .1 .0) κ (h .0 .0) (⊑-trans (τs .1 .0) (row .lives) κ (h .1 .0) (search inside depth 24 fits 20000)), tt)))
+          (λ τs b g. g) (λ τs h b g. insides-in 𝓤 0 tt tt (emp 𝓤) tt)
+          (λ τs b g r. hidden 2 (τs .0, (κ, tt)) 𝓤 H A (number·own.signature .params) (number·own.ended .kept) (true, tt) b
+          (λ ws. number·own.clauses 𝓤 H A (𝓜 .mem) (𝓡 .returns) (τs .0, (κ, tt)) b .ensures g r (outs {n = 2} (τs .0, (κ, tt)) (number·own.ended .signature .params) (number·own.ended .kept) b ws))
+          (λ ws. number·trait.clauses row ghosts dict 𝓤 H A (𝓜 .mem) (𝓡 .returns) τs b .ensures g r (outs {n = 2} τs (number·trait.ended row ghosts dict .signature .params) (number·trait.ended row ghosts dict .kept) b ws))
+          (λ ws. search ends depth 24 fits 20000))
+          (widened 𝓤 H (tripleOf 𝓤 H A number·own.signature (number·own.spec 𝓤 H A (𝓜 .mem) (𝓡 .returns))) 𝓜 𝓡 γ (γ number·symbol.name) (γ (key 1)) (number·symbol.as-method γ wn (key 1) refl) (number·met.met 𝓤 H 𝓜 𝓖 (within 𝓤 H 𝓜 𝓡 γ) wn));
+      choices =
+          implements 𝓤 H A choices·own.signature 2 (choices·trait.ended row ghosts dict .signature .outlives) (λ τs. (τs .0, (κ, tt))) (givenOf 𝓤 H 𝓜 𝓖) (𝓡 .run (γ (key 2))) (run-framed 𝓤 H 𝓜 𝓡 (γ (key 2)))
+          (choices·own.spec 𝓤 H A (𝓜 .mem) (𝓡 .returns))
+          (λ τs b. let c = choices·trait.spec row ghosts dict 𝓤 H A (𝓜 .mem) (𝓡 .returns) τs b in record { ghost = c .ghost; requires = c .requires; ensures = c .ensures })
+          1 (λ τs. (τs .1 .0, tt)) (λ τs. (row .lives, tt)) ((0, tt), ((1, tt), tt)) (λ τs b g. emp 𝓤)
+          (λ τs b g. id⊢ 𝓤 (choices·trait.spec row ghosts dict 𝓤 H A (𝓜 .mem) (𝓡 .returns) τs b .requires g))
+          (λ τs h. ((⊑-refl (τs .0), (⊑-trans (τs .1 .0) (row .lives) κ (h .1 .0) (search inside depth 24 fits 20000), tt)), (⊑-trans (τs .0) (τs .1 .0) κ (h .0 .0) (⊑-trans (τs .1 .0) (row .lives) κ (h .1 .0) (search inside depth 24 fits 20000)), tt)))
+          (λ τs b g. g) (λ τs h b g. insides-in 𝓤 0 tt tt (emp 𝓤) tt)
+          (λ τs b g r. hidden 2 (τs .0, (κ, tt)) 𝓤 H A (choices·own.signature .params) (choices·own.ended .kept) (true, tt) b
+          (λ ws. choices·own.clauses 𝓤 H A (𝓜 .mem) (𝓡 .returns) (τs .0, (κ, tt)) b .ensures g r (outs {n = 2} (τs .0, (κ, tt)) (choices·own.ended .signature .params) (choices·own.ended .kept) b ws))
+          (λ ws. choices·trait.clauses row ghosts dict 𝓤 H A (𝓜 .mem) (𝓡 .returns) τs b .ensures g r (outs {n = 2} τs (choices·trait.ended row ghosts dict .signature .params) (choices·trait.ended row ghosts dict .kept) b ws))
+          (λ ws. search ends depth 24 fits 20000))
+          (widened 𝓤 H (tripleOf 𝓤 H A choices·own.signature (choices·own.spec 𝓤 H A (𝓜 .mem) (𝓡 .returns))) 𝓜 𝓡 γ (γ choices·symbol.name) (γ (key 2)) (choices·symbol.as-method γ wc (key 2) refl) (choices·met.met 𝓤 H 𝓜 𝓖 (within 𝓤 H 𝓜 𝓡 γ) wc));
+      read =
+          implements 𝓤 H A read·own.signature 3 (read·trait.ended row ghosts dict .signature .outlives) (λ τs. (τs .0, (κ, (τs .1 .0, tt)))) (givenOf 𝓤 H 𝓜 𝓖) (𝓡 .run (γ (key 3))) (run-framed 𝓤 H 𝓜 𝓡 (γ (key 3)))
+          (read·own.spec 𝓤 H A (𝓜 .mem) (𝓡 .returns))
+          (λ τs b. let c = read·trait.spec row ghosts dict 𝓤 H A (𝓜 .mem) (𝓡 .returns) τs b in record { ghost = c .ghost; requires = c .requires; ensures = c .ensures })
+          1 (λ τs. (τs .1 .1 .0, tt)) (λ τs. (row .lives, tt)) ((0, tt), ((2, tt), ((1, tt), tt))) (λ τs b g. emp 𝓤)
+          (λ τs b g. id⊢ 𝓤 (read·trait.spec row ghosts dict 𝓤 H A (𝓜 .mem) (𝓡 .returns) τs b .requires g))
+          (λ τs h. ((⊑-refl (τs .0), (⊑-trans (τs .1 .1 .0) (row .lives) κ (h .1 .0) (search inside depth 24 fits 20000), (⊑-refl (τs .1 .0), tt))), (⊑-trans (τs .0) (τs .1 .1 .0) κ (h .0 .0) (⊑-trans (τs .1 .1 .0) (row .lives) κ (h .1 .0) (search inside depth 24 fits 20000)), tt)))
+          (λ τs b g. g) (λ τs h b g. insides-in 𝓤 0 tt tt (emp 𝓤) tt)
+          (λ τs b g r. hidden 3 (τs .0, (κ, (τs .1 .0, tt))) 𝓤 H A (read·own.signature .params) (read·own.ended .kept) (true, (true, tt)) b
+          (λ ws. read·own.clauses 𝓤 H A (𝓜 .mem) (𝓡 .returns) (τs .0, (κ, (τs .1 .0, tt))) b .ensures g r (outs {n = 3} (τs .0, (κ, (τs .1 .0, tt))) (read·own.ended .signature .params) (read·own.ended .kept) b ws))
+          (λ ws. read·trait.clauses row ghosts dict 𝓤 H A (𝓜 .mem) (𝓡 .returns) τs b .ensures g r (outs {n = 3} τs (read·trait.ended row ghosts dict .signature .params) (read·trait.ended row ghosts dict .kept) b ws))
+          (λ ws. search ends depth 24 fits 20000))
+          (widened 𝓤 H (tripleOf 𝓤 H A read·own.signature (read·own.spec 𝓤 H A (𝓜 .mem) (𝓡 .returns))) 𝓜 𝓡 γ (γ read·symbol.name) (γ (key 3)) (read·symbol.as-method γ wr (key 3) refl) (read·met.met 𝓤 H 𝓜 𝓖 (within 𝓤 H 𝓜 𝓡 γ) wr));
+    }

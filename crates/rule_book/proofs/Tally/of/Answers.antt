@@ -1,4 +1,3 @@
-use mathlib.Core.Path.{_≡_, sym, _∙_}
 use native.Mathlib.Omega.{arith}
 use Rattle.book.specs.declared.Mark.the-variants.{Open, Yes, No}
 use Rattle.rule_book.proofs.Steps.{tally-more, tally-all}
