@@ -69,6 +69,17 @@ pub impl From<LineFault> for Fault as FaultFromLine {
     }
 }
 
+pub impl From<(Fault, usize)> for FileFault as FileFaultFromFault {
+    ghost converts = { λ p f. f ≡ record { fault = p .0; line = p .1 } };
+
+    fn from(pair: (Fault, usize)) -> FileFault {
+        FileFault {
+            fault: pair.0,
+            line: pair.1,
+        }
+    }
+}
+
 impl LineCause {
     /// The number by which the table of refusals knows the cause.
     pub fn number(self) -> u8

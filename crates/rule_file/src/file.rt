@@ -10,6 +10,7 @@ use super::fault::Fault;
 use super::fault::FaultFromLine;
 use super::fault::FileCause;
 use super::fault::FileFault;
+use super::fault::FileFaultFromFault;
 use super::fill::fill;
 use super::line::LineReader;
 use super::line::Part;
@@ -156,10 +157,7 @@ fn line_of(bytes: &[u8], place: usize) -> usize
 fn refused(fault: Fault, bytes: &[u8]) -> FileFault
     ensures { λ r. ⌜ r ≡ record { fault = fault; line = line-of (now (bytes .entry)) (place-of fault) } ⌝ }
 {
-    FileFault {
-        fault,
-        line: line_of(bytes, fault.place()),
-    }
+    FileFault::from((fault, line_of(bytes, fault.place())))
 }
 
 /// Reads a file into the storage lent, or refuses it and leaves the storage as it was.

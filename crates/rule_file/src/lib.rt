@@ -8,6 +8,7 @@ pub use fault::Fault;
 pub use fault::FaultFromLine;
 pub use fault::FileCause;
 pub use fault::FileFault;
+pub use fault::FileFaultFromFault;
 pub use fault::LineCause;
 pub use fault::LineFault;
 pub use fault::LineFaultFromScan;
