@@ -243,20 +243,14 @@ impl<'a> RuleBook<'a> {
             }
             start = row.choices.end;
         }
-        weigh_choices(
-            role,
-            part(
-                self.entries,
-                Span {
-                    start,
-                    end: side.entries.end,
-                },
-            ),
-            marks,
-            reading,
-        )
+        let rest = Span {
+            start,
+            end: side.entries.end,
+        };
+        weigh_choices(role, part(self.entries, rest), marks, reading)
     }
 
+    /// The reading of a rule: its body is weighed, and then its head.
     fn rule_reading(&self, row: RuleRow, marks: &[Mark]) -> Reading
         ensures { λ r. ⌜ r ≡ rule-reading (now (marks .entry)) (rule-of (now (now (self .entry) .counts)) (now (now (self .entry) .entries)) row) ⌝ }
     {

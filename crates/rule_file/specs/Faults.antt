@@ -56,3 +56,7 @@ feeds (b ∷ bs) = cond (eqb b 10) (suc (feeds bs)) (feeds bs)
 -- the line of a place: the line feeds before it, plus 1
 abbrev pub line-of : List ℕ → ℕ → ℕ
 line-of bs p = suc (feeds (take p bs))
+
+-- a fault with its line
+abbrev pub located : List ℕ → Fault → FileFault
+located bs f = record { fault = f; line = line-of bs (place-of f) }

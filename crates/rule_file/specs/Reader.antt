@@ -19,6 +19,7 @@ use Rattle.rule_file.specs.declared.fault.FileCause.the-variants.{Limit, Rules
 use Rattle.rule_file.specs.declared.fault.LineCause.{LineCause}
 use Rattle.rule_file.specs.declared.fault.LineCause.the-variants.{Form, Choice as ChoiceCause, Repeated}
 use Rattle.rule_file.specs.declared.fault.LineFault.{LineFault}
+use Rattle.rule_file.specs.declared.file.FileReader.{FileReader}
 use Rattle.rule_file.specs.declared.file.Tally.{Tally}
 use Rattle.rule_file.specs.declared.line.Half.the-variants.{Body, Head}
 use Rattle.rule_file.specs.declared.line.LineReader.{LineReader}
@@ -164,13 +165,13 @@ is-end part.RuleEnd = false
 is-end part.End = true
 
 -- a part other than the end brings the scanner nearer to it
-abbrev pub Nearer : {E : Type 0} → Scanner → Scanner → Result (ℕ × Part) E → Type 0
-Nearer s s' (Ok x) = is-end (x .1) ≡ false → left s' < left s
-Nearer s s' (Err e) = Unit {0}
+abbrev pub LineNearer : Scanner → Scanner → Result (ℕ × Part) LineFault → Type 0
+LineNearer s s' (Ok x) = is-end (x .1) ≡ false → left s' < left s
+LineNearer s s' (Err e) = Unit {0}
 
-abbrev pub Nears : {E : Type 0} → Scanner → Scanner → Result Part E → Type 0
-Nears s s' (Ok p) = is-end p ≡ false → left s' < left s
-Nears s s' (Err e) = Unit {0}
+abbrev pub Nearer : FileReader → FileReader → Result Part Fault → Type 0
+Nearer r r' (Ok p) = is-end p ≡ false → left (r' .scanner) < left (r .scanner)
+Nearer r r' (Err e) = Unit {0}
 
 -- what is one too many
 abbrev pub file-fault : Tally → Part → Option FileCause
@@ -213,6 +214,6 @@ Counted t p t' (Ok _) = (file-fault t p ≡ None) × (t' ≡ counted t p)
 Counted t p t' (Err c) = (file-fault t p ≡ Some c) × (t' ≡ t)
 
 -- a part that is taken is counted in
-abbrev pub Tallied : {E : Type 0} → Tally → Tally → Result Part E → Type 0
+abbrev pub Tallied : Tally → Tally → Result Part Fault → Type 0
 Tallied t t' (Ok p) = (file-fault t p ≡ None) × (t' ≡ counted t p)
 Tallied t t' (Err e) = Unit {0}

@@ -3,23 +3,20 @@ ghost use mathlib.Core.Path.{_≡_};
 ghost use Prim.Native.Nat.{_+_, _≤_};
 ghost use lib.ListN.{length};
 ghost use Rattle.std.specs.Results.{Cases};
-ghost use Rattle.rule_file.specs.Faults.{place-of, line-of};
-ghost use Rattle.rule_file.specs.Reader.{Counted, Nears, Tallied};
-ghost use Rattle.rule_file.specs.Files.{Read, Refuses};
+ghost use Rattle.rule_file.specs.Faults.{line-of, located};
+ghost use Rattle.rule_file.specs.Reader.{Counted, Nearer, Tallied};
+ghost use Rattle.rule_file.specs.Files.{Started, Checked};
 use super::fault::Fault;
 use super::fault::FaultFromLine;
 use super::fault::FileCause;
 use super::fault::FileFault;
 use super::fault::FileFaultFromFault;
-use super::fill::fill;
 use super::line::LineReader;
 use super::line::Part;
 use book::SheetSize;
-use rules::CountRow;
 use rules::MAX_COUNTS;
 use rules::MAX_ENTRIES;
 use rules::MAX_RULES;
-use rules::RuleRow;
 use scan::Scanner;
 
 /// The most choices that a sheet may have.
@@ -46,7 +43,7 @@ pub struct Tally {
 }
 
 impl Tally {
-    pub(super) fn new() -> Tally
+    fn new() -> Tally
         ensures { λ r. ⌜ r ≡ record { declared = 0; rules = 0; counts = 0; entries = 0 } ⌝ }
     {
         Tally {
@@ -80,59 +77,84 @@ impl Tally {
     }
 }
 
-// The next part, counted in, or its fault.
-fn count_part(
-    scanner: &mut Scanner,
-    line: &mut LineReader,
-    tally: &mut Tally,
-) -> Result<(usize, Part), Fault> {
-    let (place, part) = line.next_part(scanner)?;
-    match tally.count(part) {
-        Ok(()) => Ok((place, part)),
-        Err(cause) => Err(Fault::File(cause, place)),
-    }
+/// A reader of a whole file, part by part.
+#[derive(Drop)]
+pub struct FileReader<'a> {
+    scanner: Scanner<'a>,
+    line: LineReader,
+    tally: Tally,
 }
 
-// The fault of a line that is one rule too many: that of its first token, if this stands at the line's own place, since
-// any other cause there has a smaller number.
-fn surplus(scanner: &mut Scanner, line: &mut LineReader, tally: &mut Tally, place: usize) -> Fault {
-    if let Err(fault) = count_part(scanner, line, tally) {
-        if fault.place() == place {
-            return fault;
+impl<'a> FileReader<'a> {
+    /// A reader at the start of a file.
+    pub fn new(bytes: &'a [u8]) -> FileReader<'a>
+        ensures { λ r. ⌜ Started r (now (bytes .entry)) ⌝ }
+    {
+        FileReader {
+            scanner: Scanner::new(bytes),
+            line: LineReader::new(),
+            tally: Tally::new(),
         }
     }
-    Fault::File(FileCause::Rules, place)
-}
 
-/// The next part of a file, or the fault that is told of it.
-pub(super) fn next_part(
-    scanner: &mut Scanner,
-    line: &mut LineReader,
-    tally: &mut Tally,
-) -> Result<Part, Fault>
-    ensures nears { λ r. ⌜ Nears (now (scanner .entry)) (now (scanner .exit)) r ⌝ }
-    ensures tallied { λ r. ⌜ Tallied (now (tally .entry)) (now (tally .exit)) r ⌝ }
-{
-    let (place, part) = line.next_part(scanner)?;
-    match (tally.count(part), part) {
-        (Ok(()), _) => Ok(part),
-        (Err(FileCause::Rules), Part::RuleLine) => Err(surplus(scanner, line, tally, place)),
-        (Err(cause), _) => Err(Fault::File(cause, place)),
+    /// What was counted so far.
+    pub fn tally(&self) -> Tally
+        ensures { λ r. ⌜ r ≡ now (self .entry) .tally ⌝ }
+    {
+        self.tally
+    }
+
+    /// The size that the header says.
+    pub fn size(&self) -> SheetSize
+        ensures { λ r. ⌜ r ≡ now (self .entry) .line .size ⌝ }
+    {
+        self.line.size()
+    }
+
+    /// The next part of the file, or the fault that is told of it.
+    pub fn next_part(&mut self) -> Result<Part, Fault>
+        ensures nearer { λ r. ⌜ Nearer (now (self .entry)) (now (self .exit)) r ⌝ }
+        ensures tallied { λ r. ⌜ Tallied (now (self .entry) .tally) (now (self .exit) .tally) r ⌝ }
+    {
+        let (place, part) = self.line.next_part(&mut self.scanner)?;
+        match (self.tally.count(part), part) {
+            (Ok(()), _) => Ok(part),
+            (Err(FileCause::Rules), Part::RuleLine) => Err(self.surplus(place)),
+            (Err(cause), _) => Err(Fault::File(cause, place)),
+        }
+    }
+
+    // The fault of a line that is one rule too many: that of its first token, if this stands at the line's own place,
+    // since any other cause there has a smaller number.
+    fn surplus(&mut self, place: usize) -> Fault {
+        match self.first_fault() {
+            Some(fault) if fault.place() == place => fault,
+            _ => Fault::File(FileCause::Rules, place),
+        }
+    }
+
+    // The fault of the next token, if it has one.
+    fn first_fault(&mut self) -> Option<Fault> {
+        match self.line.next_part(&mut self.scanner) {
+            Ok((place, part)) => match self.tally.count(part) {
+                Ok(()) => None,
+                Err(cause) => Some(Fault::File(cause, place)),
+            },
+            Err(fault) => Some(Fault::from(fault)),
+        }
     }
 }
 
-// Reads the file through and writes nothing.
-fn check(bytes: &[u8]) -> Result<Extent, Fault>
+// Reads the file to its end.
+fn read_through(bytes: &[u8]) -> Result<Extent, Fault>
     ensures few { λ r. ⌜ Cases r (λ x. x .rules ≤ 2048) (λ _. Unit {0}) ⌝ }
 {
-    let mut scanner = Scanner::new(bytes);
-    let mut line = LineReader::new();
-    let mut tally = Tally::new();
+    let mut reader = FileReader::new(bytes);
     loop {
-        if let Part::End = next_part(&mut scanner, &mut line, &mut tally)? {
+        if let Part::End = reader.next_part()? {
             return Ok(Extent {
-                size: line.size(),
-                rules: tally.rules,
+                size: reader.size(),
+                rules: reader.tally().rules,
             });
         }
     }
@@ -154,33 +176,22 @@ fn line_of(bytes: &[u8], place: usize) -> usize
     line
 }
 
+/// A fault with its line.
 fn refused(fault: Fault, bytes: &[u8]) -> FileFault
-    ensures { λ r. ⌜ r ≡ record { fault = fault; line = line-of (now (bytes .entry)) (place-of fault) } ⌝ }
+    ensures { λ r. ⌜ r ≡ located (now (bytes .entry)) fault ⌝ }
 {
     FileFault::from((fault, line_of(bytes, fault.place())))
 }
 
-/// Reads a file into the storage lent, or refuses it and leaves the storage as it was.
-pub fn read_file(
-    bytes: &[u8],
-    rules: &mut [RuleRow],
-    counts: &mut [CountRow],
-    entries: &mut [u16],
-) -> Result<Extent, FileFault>
-    ensures read { λ r. ⌜ Read (now (bytes .entry)) (length (now (rules .entry))) (length (now (counts .entry))) (length (now (entries .entry))) r ⌝ }
-    ensures kept { λ r. ⌜ Refuses r (now (rules .exit) ≡ now (rules .entry)) ⌝ ∗ ⌜ Refuses r (now (counts .exit) ≡ now (counts .entry)) ⌝ ∗ ⌜ Refuses r (now (entries .exit) ≡ now (entries .entry)) ⌝ }
+/// Checks a file and writes nothing: what it takes in storage, or the fault that is told of it.
+pub fn check_file(bytes: &[u8]) -> Result<Extent, FileFault>
+    ensures { λ r. ⌜ Checked (now (bytes .entry)) r ⌝ }
 {
-    if rules.len() < MAX_RULES || counts.len() < MAX_COUNTS || entries.len() < MAX_ENTRIES {
-        return Err(refused(Fault::File(FileCause::Storage, 0), bytes));
-    }
     if bytes.len() > MAX_BYTES {
         return Err(refused(Fault::File(FileCause::Bytes, MAX_BYTES), bytes));
     }
-    match check(bytes) {
-        Ok(extent) => {
-            fill(bytes, rules, counts, entries);
-            Ok(extent)
-        }
+    match read_through(bytes) {
+        Ok(extent) => Ok(extent),
         Err(fault) => Err(refused(fault, bytes)),
     }
 }

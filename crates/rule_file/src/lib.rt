@@ -1,7 +1,6 @@
-//! Rule files: read into storage that the caller lends, or refused with the first fault.
+//! Rule files: their form and limits, read part by part, and the first fault of a file that breaks them.
 mod fault;
 mod file;
-mod fill;
 mod line;
 
 pub use fault::Fault;
@@ -15,4 +14,7 @@ pub use fault::LineFaultFromScan;
 pub use fault::RefusalFromFile;
 pub use fault::RefusalFromLine;
 pub use file::Extent;
-pub use file::read_file;
+pub use file::FileReader;
+pub use file::Tally;
+pub use file::check_file;
+pub use line::Part;

@@ -2,10 +2,11 @@
 ghost use mathlib.Core.Path.{_≡_};
 ghost use mathlib.Core.Bool.{true, false, cond};
 ghost use lib.Dec.{ltb};
-ghost use Rattle.rule_file.specs.Reader.{plays, no-choice, none-seen, Admitted, Stepped, Nearer};
+ghost use Rattle.rule_file.specs.Reader.{plays, no-choice, none-seen, Admitted, Stepped, LineNearer};
 ghost use Rattle.std.specs.Results.{Cases};
 ghost use Rattle.rule_file.specs.declared.fault.LineCause.the-variants.{Choice as ChoiceCause};
 ghost use Rattle.rule_file.specs.declared.line.Part.the-variants.{Member};
+ghost use Rattle.rule_file.specs.declared.line.State.the-variants.{Start};
 use super::fault::LineCause;
 use super::fault::LineFault;
 use super::fault::LineFaultFromScan;
@@ -79,7 +80,9 @@ pub struct LineReader {
 }
 
 impl LineReader {
-    pub(super) fn new() -> LineReader {
+    pub(super) fn new() -> LineReader
+        ensures { λ r. ⌜ r .state ≡ Start ⌝ ∗ ⌜ r .size .value ≡ 0 ⌝ ∗ ⌜ r .seen ≡ none-seen ⌝ }
+    {
         LineReader {
             state: State::Start,
             size: SheetSize::zero(),
@@ -96,7 +99,7 @@ impl LineReader {
 
     /// What the next token is there for, with its place.
     pub(super) fn next_part(&mut self, scanner: &mut Scanner) -> Result<(usize, Part), LineFault>
-        ensures nearer { λ r. ⌜ Nearer (now (scanner .entry)) (now (scanner .exit)) r ⌝ }
+        ensures nearer { λ r. ⌜ LineNearer (now (scanner .entry)) (now (scanner .exit)) r ⌝ }
     {
         let (place, token) = scanner.next_token()?;
         match self.step(token) {

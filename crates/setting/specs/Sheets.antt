@@ -17,7 +17,7 @@ use Rattle.rule_book.specs.Readings.{rules-reading}
 use Rattle.rule_file.specs.declared.fault.FileFault.{FileFault}
 use Rattle.rule_file.specs.declared.file.Extent.{Extent}
 use Rattle.rule_file.specs.Faults.{told-file}
-use Rattle.rule_file.specs.Files.{Read}
+use Rattle.rule_store.specs.Storing.{Read}
 use Rattle.solver.specs.declared.Verdict.{Verdict}
 use Rattle.solver.specs.Outcome.{Says, MarksAfter, Means}
 use Rattle.solver.specs.Tree.{Explores}

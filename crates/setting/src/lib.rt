@@ -12,7 +12,7 @@ use refusal::Refusal;
 use rule_book::RuleBook;
 use rule_book::RuleBookBook;
 use rule_file::RefusalFromFile;
-use rule_file::read_file;
+use rule_store::read_file;
 use rules::CountRow;
 use rules::MAX_COUNTS;
 use rules::MAX_ENTRIES;

@@ -4,7 +4,7 @@ use refusal::Refusal;
 use refusal::RefusalDebug;
 use refusal::RefusalPartialEq;
 use rule_file::RefusalFromFile;
-use rule_file::read_file;
+use rule_store::read_file;
 use rules::CountRow;
 use rules::RuleRow;
 use rules::Side;

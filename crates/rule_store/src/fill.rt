@@ -1,15 +1,13 @@
 //! The filling of storage from a file that was checked.
 ghost use mathlib.Core.Path.{_≡_};
 ghost use lib.ListN.{set};
-use super::file::Tally;
-use super::file::next_part;
-use super::line::LineReader;
-use super::line::Part;
+use rule_file::FileReader;
+use rule_file::Part;
+use rule_file::Tally;
 use rules::CountRow;
 use rules::RuleRow;
 use rules::Side;
 use rules::Span;
-use scan::Scanner;
 
 /// The rule and the count that are being read, and where they will stand.
 #[derive(Drop)]
@@ -119,13 +117,11 @@ pub(super) fn fill(
     counts: &mut [CountRow],
     entries: &mut [u16],
 ) {
-    let mut scanner = Scanner::new(bytes);
-    let mut line = LineReader::new();
-    let mut tally = Tally::new();
+    let mut reader = FileReader::new(bytes);
     let mut filler = Filler::new();
     loop {
-        let before = tally;
-        let Ok(part) = next_part(&mut scanner, &mut line, &mut tally) else {
+        let before = reader.tally();
+        let Ok(part) = reader.next_part() else {
             return;
         };
         if let Part::End = part {

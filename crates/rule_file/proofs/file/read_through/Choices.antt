@@ -1,0 +1,9 @@
+use Prim.Native.Nat.{_≤_}
+use Rattle.scan.specs.Scans.{left}
+use Rattle.rule_file.proofs.file.read_through.Given as given
+
+abbrev pub Inv-loop-reader : given.InvT-loop-reader
+Inv-loop-reader l = (l .reader .tally .declared ≤ 2048) × (l .reader .tally .rules ≤ 2048)
+
+abbrev pub μ-loop-reader : given.MeasureT-loop-reader
+μ-loop-reader l = left (l .reader .scanner)

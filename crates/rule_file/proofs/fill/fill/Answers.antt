@@ -1,5 +1,0 @@
-use Rattle.rule_file.proofs.Ends.{not-end}
-use Rattle.rule_file.proofs.fill.fill.Needs as need
-
-pub loop-part-less : need.loop-part-less
-loop-part-less c = c .in-Ok .ensures tt .nears (not-end _ (c .in-rest-part .not-End))
