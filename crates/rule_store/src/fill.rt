@@ -1,6 +1,7 @@
 //! The filling of storage from a file that was checked.
 ghost use mathlib.Core.Path.{_≡_};
 ghost use lib.ListN.{set};
+ghost use Rattle.rule_store.specs.Filling.{side-from, side-to, filler-after, rules-after, counts-after, entries-after};
 use rule_file::FileReader;
 use rule_file::Part;
 use rule_file::Tally;
@@ -36,7 +37,9 @@ fn store<T: Copy>(list: &mut [T], at: u16, value: T)
 }
 
 // A side that starts with the next entry and the next count.
-fn begun(tally: Tally) -> Side {
+fn begun(tally: Tally) -> Side
+    ensures { λ r. ⌜ r ≡ side-from tally ⌝ }
+{
     Side {
         entries: Span {
             start: tally.entries,
@@ -50,7 +53,9 @@ fn begun(tally: Tally) -> Side {
 }
 
 // Ends a side before the next entry and the next count.
-fn end(side: &mut Side, tally: Tally) {
+fn end(side: &mut Side, tally: Tally)
+    ensures { λ _. ⌜ now (side .exit) ≡ side-to (now (side .entry)) tally ⌝ }
+{
     side.entries.end = tally.entries;
     side.counts.end = tally.counts;
 }
@@ -80,7 +85,12 @@ impl Filler {
         rules: &mut [RuleRow],
         counts: &mut [CountRow],
         entries: &mut [u16],
-    ) {
+    )
+        ensures filler { λ _. ⌜ now (self .exit) ≡ filler-after (now (self .entry)) tally part ⌝ }
+        ensures rules { λ _. ⌜ now (rules .exit) ≡ rules-after (now (self .entry)) tally part (now (rules .entry)) ⌝ }
+        ensures counts { λ _. ⌜ now (counts .exit) ≡ counts-after (now (self .entry)) tally part (now (counts .entry)) ⌝ }
+        ensures entries { λ _. ⌜ now (entries .exit) ≡ entries-after tally part (now (entries .entry)) ⌝ }
+    {
         match part {
             Part::RuleLine => {
                 self.rule.body = begun(tally);
