@@ -1,4 +1,5 @@
 pub mod Faults
 pub mod Files
 pub mod Form
+pub mod Machine
 pub mod Reader

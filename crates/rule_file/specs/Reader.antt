@@ -1,7 +1,7 @@
 -- What the readers of lines and files do with one token.
 use mathlib.Core.Path.{_≡_}
 use mathlib.Core.Bool.{Bool, true, false, cond}
-use mathlib.Core.List.{List}
+use mathlib.Core.List.{List, _∷_}
 use Prim.Native.Nat.{ℕ, _+_, _<_}
 use lib.Dec.{eqb, ltb, leb}
 use lib.ListN.{getD, set, replicate}
@@ -12,13 +12,15 @@ use Rattle.std.specs.declared.result.Result.the-variants.{Ok, Err}
 use Rattle.scan.specs.declared.Token.{Token}
 use Rattle.scan.specs.declared.Token.the-variants as token
 use Rattle.scan.specs.declared.scanner.Scanner.{Scanner}
-use Rattle.scan.specs.Scans.{left}
+use Rattle.scan.specs.Scans.{left, ahead, Token-first, Refused}
+use Rattle.scan.specs.Words.{Word, Placed}
 use Rattle.rule_file.specs.declared.fault.Fault.{Fault}
 use Rattle.rule_file.specs.declared.fault.FileCause.{FileCause}
 use Rattle.rule_file.specs.declared.fault.FileCause.the-variants.{Limit, Rules as RulesCause}
 use Rattle.rule_file.specs.declared.fault.LineCause.{LineCause}
 use Rattle.rule_file.specs.declared.fault.LineCause.the-variants.{Form, Choice as ChoiceCause, Repeated}
 use Rattle.rule_file.specs.declared.fault.LineFault.{LineFault}
+use Rattle.rule_file.specs.declared.fault.LineFault.the-variants.{Scan, Line}
 use Rattle.rule_file.specs.declared.file.FileReader.{FileReader}
 use Rattle.rule_file.specs.declared.file.Tally.{Tally}
 use Rattle.rule_file.specs.declared.line.Half.the-variants.{Body, Head}
@@ -72,23 +74,23 @@ plays state.Over = nothing
 abbrev pub no-choice : ℕ → ℕ → Bool
 no-choice n v = cond (eqb v 0) true (ltb n v)
 
--- what is wrong with the choice of a part
-abbrev pub line-fault : LineReader → Part → Option LineCause
-line-fault r part.HeaderLine = None
-line-fault r part.Header = None
-line-fault r (part.Size v) = None
-line-fault r (part.Rules v) = None
-line-fault r part.HeaderEnd = None
-line-fault r part.RuleLine = None
-line-fault r (part.Choice v) = cond (no-choice (r .size .value) v) (Some ChoiceCause) None
-line-fault r part.CountOpen = None
-line-fault r (part.Lower v) = None
-line-fault r (part.Upper v) = None
-line-fault r (part.Member v) = cond (no-choice (r .size .value) v) (Some ChoiceCause) (cond (getD (r .seen) v false) (Some Repeated) None)
-line-fault r part.CountClose = None
-line-fault r part.Comma = None
-line-fault r part.RuleEnd = None
-line-fault r part.End = None
+-- what is wrong with the choice of a part, by n and the choices that the count has had
+abbrev pub line-fault : ℕ → List Bool → Part → Option LineCause
+line-fault n seen part.HeaderLine = None
+line-fault n seen part.Header = None
+line-fault n seen (part.Size v) = None
+line-fault n seen (part.Rules v) = None
+line-fault n seen part.HeaderEnd = None
+line-fault n seen part.RuleLine = None
+line-fault n seen (part.Choice v) = cond (no-choice n v) (Some ChoiceCause) None
+line-fault n seen part.CountOpen = None
+line-fault n seen (part.Lower v) = None
+line-fault n seen (part.Upper v) = None
+line-fault n seen (part.Member v) = cond (no-choice n v) (Some ChoiceCause) (cond (getD seen v false) (Some Repeated) None)
+line-fault n seen part.CountClose = None
+line-fault n seen part.Comma = None
+line-fault n seen part.RuleEnd = None
+line-fault n seen part.End = None
 
 -- the size, once the header's n is read; one above 4,096 is not kept
 abbrev pub size-after : ℕ → Part → ℕ
@@ -135,16 +137,16 @@ abbrev pub Noted : LineReader → Part → LineReader → Type 0
 Noted r p r' = (r' .size .value ≡ size-after (r .size .value) p) × (r' .seen ≡ seen-after (r .seen) p)
 
 abbrev pub Admitted : LineReader → Part → LineReader → Result (Unit {0}) LineCause → Type 0
-Admitted r p r' (Ok _) = (line-fault r p ≡ None) × (r' .state ≡ r .state) × Noted r p r'
-Admitted r p r' (Err c) = (line-fault r p ≡ Some c) × (r' ≡ r)
+Admitted r p r' (Ok _) = (line-fault (r .size .value) (r .seen) p ≡ None) × (r' .state ≡ r .state) × Noted r p r'
+Admitted r p r' (Err c) = (line-fault (r .size .value) (r .seen) p ≡ Some c) × (r' ≡ r)
 
 abbrev pub by-taken : LineReader → Taken → Option LineCause
 by-taken r None = Some Form
-by-taken r (Some x) = line-fault r (x .0)
+by-taken r (Some x) = line-fault (r .size .value) (r .seen) (x .0)
 
 -- one token taken, or refused with nothing changed
 abbrev pub Stepped : LineReader → Token → LineReader → Result Part LineCause → Type 0
-Stepped r t r' (Ok p) = (plays (r .state) t ≡ Some (p, r' .state)) × (line-fault r p ≡ None) × Noted r p r'
+Stepped r t r' (Ok p) = (plays (r .state) t ≡ Some (p, r' .state)) × (line-fault (r .size .value) (r .seen) p ≡ None) × Noted r p r'
 Stepped r t r' (Err c) = (by-taken r (plays (r .state) t) ≡ Some c) × (r' ≡ r)
 
 abbrev pub is-end : Part → Bool
@@ -163,6 +165,13 @@ is-end part.CountClose = false
 is-end part.Comma = false
 is-end part.RuleEnd = false
 is-end part.End = true
+
+-- The line reader and the scanner, from before to after, at the first word ahead: a part is the step that its token takes;
+-- a refusal is the scanner's or that of its token.
+abbrev pub Line-reads : LineReader → Scanner → LineReader → Scanner → Result (ℕ × Part) LineFault → Type 0
+Line-reads r s r' s' (Ok x) = (t : Token) × Token-first (ahead s) (x .0) t s' × Stepped r t r' (Ok (x .1))
+Line-reads r s r' s' (Err (Scan f)) = (w : Word) × (ws : List Placed) × (ahead s ≡ (f .place, w) ∷ ws) × Refused (f .cause) w
+Line-reads r s r' s' (Err (Line c i)) = (t : Token) × Token-first (ahead s) i t s' × (by-taken r (plays (r .state) t) ≡ Some c)
 
 -- a part other than the end brings the scanner nearer to it
 abbrev pub LineNearer : Scanner → Scanner → Result (ℕ × Part) LineFault → Type 0

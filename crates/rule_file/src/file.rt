@@ -6,6 +6,8 @@ ghost use Rattle.std.specs.Results.{Cases};
 ghost use Rattle.rule_file.specs.Faults.{line-of, located};
 ghost use Rattle.rule_file.specs.Reader.{Counted, Nearer, Tallied};
 ghost use Rattle.rule_file.specs.Files.{Started, Checked};
+ghost use Rattle.rule_file.specs.Machine.{mach, surplus-fault, next-fault, Moves, Read-through, Passed};
+ghost use Rattle.scan.specs.Scans.{ahead};
 use super::fault::Fault;
 use super::fault::FaultFromLine;
 use super::fault::FileCause;
@@ -113,20 +115,26 @@ impl<'a> FileReader<'a> {
 
     /// The next part of the file, or the fault that is told of it.
     pub fn next_part(&mut self) -> Result<Part, Fault>
+        ensures moves { λ r. ⌜ Moves (now (self .entry)) (now (self .exit)) r ⌝ }
         ensures nearer { λ r. ⌜ Nearer (now (self .entry)) (now (self .exit)) r ⌝ }
         ensures tallied { λ r. ⌜ Tallied (now (self .entry) .tally) (now (self .exit) .tally) r ⌝ }
     {
         let (place, part) = self.line.next_part(&mut self.scanner)?;
-        match (self.tally.count(part), part) {
-            (Ok(()), _) => Ok(part),
-            (Err(FileCause::Rules), Part::RuleLine) => Err(self.surplus(place)),
-            (Err(cause), _) => Err(Fault::File(cause, place)),
+        match self.tally.count(part) {
+            Ok(()) => Ok(part),
+            Err(cause) => match part {
+                // A rule's line is refused only where it is one too many.
+                Part::RuleLine => Err(self.surplus(place)),
+                _ => Err(Fault::File(cause, place)),
+            },
         }
     }
 
     // The fault of a line that is one rule too many: that of its first token, if this stands at the line's own place,
     // since any other cause there has a smaller number.
-    fn surplus(&mut self, place: usize) -> Fault {
+    fn surplus(&mut self, place: usize) -> Fault
+        ensures { λ r. ⌜ r ≡ surplus-fault (mach (now (self .entry))) place (ahead (now (self .entry) .scanner)) ⌝ }
+    {
         match self.first_fault() {
             Some(fault) if fault.place() == place => fault,
             _ => Fault::File(FileCause::Rules, place),
@@ -134,7 +142,9 @@ impl<'a> FileReader<'a> {
     }
 
     // The fault of the next token, if it has one.
-    fn first_fault(&mut self) -> Option<Fault> {
+    fn first_fault(&mut self) -> Option<Fault>
+        ensures { λ r. ⌜ r ≡ next-fault (mach (now (self .entry))) (ahead (now (self .entry) .scanner)) ⌝ }
+    {
         match self.line.next_part(&mut self.scanner) {
             Ok((place, part)) => match self.tally.count(part) {
                 Ok(()) => None,
@@ -147,6 +157,7 @@ impl<'a> FileReader<'a> {
 
 // Reads the file to its end.
 fn read_through(bytes: &[u8]) -> Result<Extent, Fault>
+    ensures passes { λ r. ⌜ Read-through (now (bytes .entry)) r ⌝ }
     ensures few { λ r. ⌜ Cases r (λ x. x .rules ≤ 2048) (λ _. Unit {0}) ⌝ }
 {
     let mut reader = FileReader::new(bytes);
@@ -185,7 +196,8 @@ fn refused(fault: Fault, bytes: &[u8]) -> FileFault
 
 /// Checks a file and writes nothing: what it takes in storage, or the fault that is told of it.
 pub fn check_file(bytes: &[u8]) -> Result<Extent, FileFault>
-    ensures { λ r. ⌜ Checked (now (bytes .entry)) r ⌝ }
+    ensures checked { λ r. ⌜ Checked (now (bytes .entry)) r ⌝ }
+    ensures passes { λ r. ⌜ Passed (now (bytes .entry)) r ⌝ }
 {
     if bytes.len() > MAX_BYTES {
         return Err(refused(Fault::File(FileCause::Bytes, MAX_BYTES), bytes));

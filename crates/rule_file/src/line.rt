@@ -2,7 +2,7 @@
 ghost use mathlib.Core.Path.{_≡_};
 ghost use mathlib.Core.Bool.{true, false, cond};
 ghost use lib.Dec.{ltb};
-ghost use Rattle.rule_file.specs.Reader.{plays, no-choice, none-seen, Admitted, Stepped, LineNearer};
+ghost use Rattle.rule_file.specs.Reader.{plays, no-choice, none-seen, Admitted, Stepped, Line-reads, LineNearer};
 ghost use Rattle.std.specs.Results.{Cases};
 ghost use Rattle.rule_file.specs.declared.fault.LineCause.the-variants.{Choice as ChoiceCause};
 ghost use Rattle.rule_file.specs.declared.line.Part.the-variants.{Member};
@@ -99,6 +99,7 @@ impl LineReader {
 
     /// What the next token is there for, with its place.
     pub(super) fn next_part(&mut self, scanner: &mut Scanner) -> Result<(usize, Part), LineFault>
+        ensures reads { λ r. ⌜ Line-reads (now (self .entry)) (now (scanner .entry)) (now (self .exit)) (now (scanner .exit)) r ⌝ }
         ensures nearer { λ r. ⌜ LineNearer (now (scanner .entry)) (now (scanner .exit)) r ⌝ }
     {
         let (place, token) = scanner.next_token()?;
