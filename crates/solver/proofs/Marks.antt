@@ -2,12 +2,13 @@
 use mathlib.Core.Path.{_≡_, refl, sym, _∙_, ap}
 use mathlib.Core.Bool.{Bool, true, false, cond}
 use mathlib.Core.List.{List, [], _∷_}
+use mathlib.Core.Logic.{inl, inr}
 use Prim.Native.Nat.{ℕ, _+_, _<_, _≤_, suc, zero}
 use native.Mathlib.Numerals.{add-one}
 use native.Mathlib.Omega.{arith}
 use lib.ListN.{length, getD, set, drop, replicate}
 use lib.Seq.{drop-cons, set-set, set-getD}
-use Rattle.std.proofs.shelf.Lists.{drop-all}
+use Rattle.std.proofs.shelf.Tests.{cases-lt}
 use Rattle.book.specs.declared.Answer.{Answer}
 use Rattle.book.specs.declared.Answer.the-variants.{Yes as AnswerYes, No as AnswerNo}
 use Rattle.book.specs.declared.Mark.{Mark}
@@ -56,11 +57,11 @@ before-first (Yes ∷ ms) (suc k) h o = before-first ms k (omega arith) o
 before-first (No ∷ ms) zero h o = never-open AnswerNo o
 before-first (No ∷ ms) (suc k) h o = before-first ms k (omega arith) o
 
+pub settled-first : (ms : List Mark) → ((k : ℕ) → k < length ms → getD ms k Open ≡ Open → ⊥) → length ms ≤ first-open ms
+settled-first ms s = elim (cases-lt (first-open ms) (length ms)) [ inl h ↦ absurd (s (first-open ms) h (first-is ms h)) | inr h ↦ h ]
+
 pub first-next : (ms : List Mark) (i : ℕ) → i < length ms → first-open (drop i ms) ≡ cond (open-mark (getD ms i Open)) 0 (suc (first-open (drop (i + 1) ms)))
 first-next ms i h = rw (drop-cons ms i Open, add-one i)
-
-pub first-end : (ms : List Mark) (i : ℕ) → length ms ≤ i → first-open (drop i ms) ≡ 0
-first-end ms i h = rw (drop-all i ms h)
 
 pub not-open : (v : Answer) → open-mark (mark-of v) ≡ false
 not-open AnswerYes = refl

@@ -3,7 +3,7 @@ use mathlib.Core.Path.{_≡_, refl, sym, _∙_, ap, subst}
 use mathlib.Core.Bool.{Bool, true, false, cond}
 use mathlib.Core.List.{List, [], _∷_}
 use mathlib.Core.Logic.{_⊎_, inl, inr}
-use Prim.Native.Nat.{ℕ, _+_, _-_, _<_, _≤_, suc, zero}
+use Prim.Native.Nat.{ℕ, _+_, _-_, _<_, suc, zero}
 use native.Mathlib.Nat.{zero-add}
 use native.Mathlib.Omega.{arith}
 use borrow.Author.Tests.{ltb-true, ltb-false}
@@ -19,7 +19,7 @@ use Rattle.book.specs.declared.Mark.{Mark}
 use Rattle.book.specs.declared.Mark.the-variants.{Open, Yes, No}
 use Rattle.book.specs.declared.Reading.{Reading}
 use Rattle.book.specs.declared.Reading.the-variants.{Broken, Quiet, Forced}
-use Rattle.book.specs.Books.{mark-of, open-mark, Laws, Extends, Settled, Earlier}
+use Rattle.book.specs.Books.{mark-of, open-mark, Laws, Extends, Settled}
 use Rattle.solver.specs.Tree.{first-open, opens, Explores, broken, settled, forced, yes-side, no-side, FirstOf}
 use Rattle.solver.proofs.Marks.{first-is, before-first, never-open, not-open, opens-set}
 use Rattle.solver.proofs.Runs.{Run, tick, after-of, by-reading, branch, ended, explore}
@@ -52,6 +52,10 @@ same-list (x ∷ xs) (y ∷ ys) l h =
     let b : xs ≡ ys = same-list xs ys (omega arith) (λ k q. h (suc k) (omega arith)) in
     cc
 
+-- marks with none open are extended only by themselves
+pub only-itself : (ms b : List Mark) → Settled ms → Extends ms b → ms ≡ b
+only-itself ms b s x = same-list ms b (sym (x .0)) (λ k q. let v = answer-of (getD ms k Open) (s k q) in v .1 ∙ sym (x .1 k (v .0) (v .1)))
+
 module _ (n : ℕ) (allows : List Mark → Type 0) (reads : List Mark → Reading) (laws : Laws n allows reads) where
   -- an allowed arrangement has an answer at each choice
   answered : (b : List Mark) (i : ℕ) → allows b → i < n → (getD b i Open ≡ Yes) ⊎ (getD b i Open ≡ No)
@@ -72,7 +76,7 @@ module _ (n : ℕ) (allows : List Mark → Type 0) (reads : List Mark → Readin
   first-of (settled ms e h) l =
       let st : Settled ms = λ k q o. before-first ms k (omega arith) o in
       let al : allows ms = elim (laws .settled ms l st) [ inl y ↦ y .1 | inr y ↦ absurd (let r : Quiet ≡ Broken = sym e ∙ y .0 in let z : _≡_ {A = ℕ} 0 1 = cc in omega arith) ] in
-      (al, (refl, λ k v q. q), λ b bl y. inl (same-list ms b (sym (y .0)) (λ k q. let v = answer-of (getD ms k Open) (st k q) in v .1 ∙ sym (y .1 k (v .0) (v .1)))))
+      (al, (refl, λ k v q. q), λ b bl y. inl (only-itself ms b st y))
   first-of (forced ms c v t o e x) l =
       let f = laws .forced-open ms c v l e in
       let lt : c - 1 < length ms = omega (arith, f .0, f .1) in

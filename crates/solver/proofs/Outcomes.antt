@@ -1,24 +1,24 @@
 -- What a search leaves, from what its loop comes to.
 use mathlib.Core.Path.{_≡_, refl, sym, _∙_, ap, subst}
-use mathlib.Core.List.{List, [], _∷_}
-use mathlib.Core.Logic.{_⊎_, inl, inr}
-use Prim.Native.Nat.{ℕ, _<_, _≤_, suc, zero}
+use mathlib.Core.List.{List}
+use mathlib.Core.Logic.{inl, inr}
+use Prim.Native.Nat.{ℕ, _+_, _^_, _≤_}
 use native.Mathlib.Omega.{arith}
-use lib.ListN.{length, getD, replicate, length-replicate}
+use lib.ListN.{length, replicate, length-replicate}
 use Rattle.std.proofs.shelf.Tests.{cases-lt}
 use Rattle.std.specs.declared.option.Option.{Option}
 use Rattle.std.specs.declared.option.Option.the-variants.{Some, None}
-use Rattle.book.specs.declared.Answer.{Answer}
 use Rattle.book.specs.declared.Mark.{Mark}
 use Rattle.book.specs.declared.Mark.the-variants.{Open}
 use Rattle.book.specs.declared.Reading.{Reading}
-use Rattle.book.specs.Books.{mark-of, Laws, Extends}
+use Rattle.book.specs.Books.{Laws, Extends}
 use Rattle.solver.specs.declared.Ending.{Ending}
 use Rattle.solver.specs.declared.Ending.the-variants.{Found, None as NoneAllowed, Spent}
 use Rattle.solver.specs.declared.Verdict.{Verdict}
-use Rattle.solver.specs.Outcome.{verdict-of, Says, Ran, MarksAfter, Finished, Means}
-use Rattle.solver.specs.Tree.{Explores, FirstOf, TreeLaws}
-use Rattle.solver.proofs.Marks.{never-open, getD-new}
+use Rattle.solver.specs.Outcome.{Says, Ran, MarksAfter, Finished, Means}
+use Rattle.solver.specs.Tree.{opens, Explores, FirstOf, TreeLaws}
+use Rattle.solver.proofs.Marks.{never-open, getD-new, opens-new}
+use Rattle.solver.proofs.Counts.{few, single}
 use Rattle.solver.proofs.Meaning.{first-of, explored}
 
 -- an ending says what the search comes to
@@ -30,6 +30,10 @@ none-of t a (Some x) v s e =
       | inr q ↦ absurd (let p : v .ending ≡ Found = ap (λ (u : Verdict). u .ending) (s .enough q) in let z : _≡_ {A = ℕ} 0 1 = cc in omega arith)
     ]
 
+spent-of : (t a : ℕ) (o : Option (List Mark)) (v : Verdict) → Says t o a v → v .ending ≡ Spent → t ≤ a → ⊥
+spent-of t a None v s e q = let p : v .ending ≡ NoneAllowed = ap (λ (u : Verdict). u .ending) (s .enough q) in let z : _≡_ {A = ℕ} 0 1 = cc in omega arith
+spent-of t a (Some x) v s e q = let p : v .ending ≡ Found = ap (λ (u : Verdict). u .ending) (s .enough q) in let z : _≡_ {A = ℕ} 0 1 = cc in omega arith
+
 module _ (n : ℕ) (allows : List Mark → Type 0) (reads : List Mark → Reading) (laws : Laws n allows reads) where
   -- whatever is allowed extends open marks
   extends-new : (b : List Mark) → allows b → Extends (replicate n Open) b
@@ -37,7 +41,12 @@ module _ (n : ℕ) (allows : List Mark → Type 0) (reads : List Mark → Readin
 
   pub tree-laws : TreeLaws n allows reads
   tree-laws =
-      record { total = λ ms l. let r = explored n allows reads laws _ ms refl l in (_, _, r); first = λ ms t o l x. first-of n allows reads laws x l }
+      record {
+        total = λ ms l. (_, _, explored n allows reads laws (opens ms) ms refl l);
+        single = λ ms t u o p x y. single reads x y;
+        few = λ ms t o x. few reads x;
+        first = λ ms t o l x. first-of n allows reads laws x l;
+      }
 
   means-at : (e : Ending) (t : ℕ) (o : Option (List Mark)) (ms : List Mark) → Explores reads (replicate n Open) t o → (e ≡ Found → o ≡ Some ms) → (e ≡ NoneAllowed → o ≡ None) → Means allows e ms
   means-at Found t o ms x f g =
@@ -62,4 +71,15 @@ module _ (n : ℕ) (allows : List Mark → Type 0) (reads : List Mark → Readin
 
     pub finished : (ms₀ : List Mark) (w₀ w' : List ℕ) → length ms₀ ≡ n → length w₀ ≡ n → ((v .ending ≡ Found → ⊥) → ms' ≡ replicate n Open) → w' ≡ replicate n 0 → Finished n reads a ms₀ w₀ ms' w' v
     finished ms₀ w₀ w' lm lw cleared z =
-        record { fits = (lm, lw); needed = r .needed; end = r .end; explores = r .explores; says = r .says; marks = marks-at (v .ending) same-marks cleared; zeros = z }
+        let f : r .needed + 1 ≤ 2 ^ n = rw opens-new at (few reads (r .explores)) in
+        record {
+          fits = (lm, lw);
+          needed = r .needed;
+          end = r .end;
+          explores = r .explores;
+          says = r .says;
+          marks = marks-at (v .ending) same-marks cleared;
+          zeros = z;
+          few = f;
+          ample = λ q e. spent-of (r .needed) a (r .end) v (r .says) e (omega arith);
+        }

@@ -84,7 +84,7 @@ module _ (reads : List Mark → Reading) where
   explore (suc f) ms = by-reading (explore f) ms (reads ms)
 
   -- what is left of a run whose current part comes to r: the trail taken back, with the other side of each trial on it
-  abbrev pub finish : ℕ → List Step → List Mark → Run → Run
+  abbrev finish : ℕ → List Step → List Mark → Run → Run
   finish f [] ms r = r
   finish f (s ∷ st) ms r = finish (suc f) st (set ms (place-of s) Open) (cond (s .trial) (after r (explore f (set ms (place-of s) No))) r)
 

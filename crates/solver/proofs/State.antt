@@ -1,20 +1,19 @@
 -- The state of the loop: how it goes with each reading.
 use mathlib.Core.Path.{_≡_, refl, sym, _∙_, ap}
 use mathlib.Core.Bool.{true, false}
-use mathlib.Core.List.{List, [], _∷_}
-use Prim.Native.Nat.{ℕ, _+_, _-_, _<_, _≤_, suc, zero}
+use mathlib.Core.List.{List, _∷_}
+use Prim.Native.Nat.{ℕ, _+_, _-_, _<_, _≤_}
 use native.Mathlib.Omega.{arith}
 use lib.ListN.{length, getD, set, replicate, length-set, length-replicate}
-use Rattle.std.specs.declared.option.Option.{Option}
 use Rattle.std.specs.declared.option.Option.the-variants.{Some, None}
 use Rattle.book.specs.declared.Answer.{Answer}
 use Rattle.book.specs.declared.Mark.{Mark}
-use Rattle.book.specs.declared.Mark.the-variants.{Open, Yes, No}
+use Rattle.book.specs.declared.Mark.the-variants.{Open, Yes}
 use Rattle.book.specs.declared.Reading.{Reading}
 use Rattle.book.specs.declared.Reading.the-variants.{Broken, Quiet, Forced}
 use Rattle.book.specs.Books.{mark-of, open-mark, Laws}
 use Rattle.solver.specs.declared.trail.Step.{Step}
-use Rattle.solver.specs.Steps.{number-of, place-of, trail-of, Held, Unwinds}
+use Rattle.solver.specs.Steps.{entry-of, place-of, trail-of, Held, Unwinds}
 use Rattle.solver.specs.Tree.{first-open, opens}
 use Rattle.solver.proofs.Marks.{opens-set, opens-new, first-is, not-open}
 use Rattle.solver.proofs.Runs.{Run, tick, explore, rest, forced-rest, trial-rest, found-rest, broken-rest, turned-rest, none-rest}
@@ -45,7 +44,7 @@ module _ (reads : List Mark → Reading) (n a : ℕ) where
       rw e (record { marks-long = j; work-long = l; held = k ∙ sym j; within = omega arith; trials-left = rw k (omega arith); found-left = rw k })
 
   -- with a mark open, the trail is shorter than n
-  pub deep : (d t : ℕ) (ms : List Mark) (w : List ℕ) (i : ℕ) → State reads n a d t ms w → i < length ms → getD ms i Open ≡ Open → d < n
+  deep : (d t : ℕ) (ms : List Mark) (w : List ℕ) (i : ℕ) → State reads n a d t ms w → i < length ms → getD ms i Open ≡ Open → d < n
   deep d t ms w i s h o =
       let k = held-count (trail-of d w) ms (s .held) in
       let l = length-trail d w in
@@ -59,7 +58,7 @@ module _ (reads : List Mark → Reading) (n a : ℕ) where
       omega (arith, s .marks-long)
 
   -- what a step asks of the lists
-  abbrev pub Room : ℕ → ℕ → List Mark → List ℕ → Type 0
+  abbrev Room : ℕ → ℕ → List Mark → List ℕ → Type 0
   Room d c ms w = (0 < c) × ((c ≤ length ms) × ((length ms ≤ 4096) × (d < length w)))
 
   pub forced-room : (allows : List Mark → Type 0) → Laws n allows reads → (d t : ℕ) (ms : List Mark) (w : List ℕ) (c : ℕ) (v : Answer) → State reads n a d t ms w → reads ms ≡ Forced c v → Room d c ms w
@@ -74,7 +73,7 @@ module _ (reads : List Mark → Reading) (n a : ℕ) where
       (omega arith, (h, (omega (arith, s .marks-long, laws .small), omega (arith, s .work-long, deep d t ms w (first-open ms) s (omega arith) o))))
 
   -- the loop goes on with what is left, which is less by a reading
-  abbrev pub Goes : ℕ → List Mark → List ℕ → ℕ → ℕ → List Mark → List ℕ → Type 0
+  abbrev Goes : ℕ → List Mark → List ℕ → ℕ → ℕ → List Mark → List ℕ → Type 0
   Goes d ms w d' t' ms' w' = State reads n a d' t' ms' w' × (left reads d' ms' w' < left reads d ms w)
 
   goes-on : (d t k d' t' : ℕ) (ms ms' : List Mark) (w w' : List ℕ) → State reads n a d t ms w → t' ≡ t + k → t' ≤ a → length ms' ≡ length ms → length w' ≡ length w → Held (trail-of d' w') ms' →
@@ -87,21 +86,21 @@ module _ (reads : List Mark → Reading) (n a : ℕ) where
 
   -- .. by a step
   goes-by : (d t k t' : ℕ) (ms ms' : List Mark) (w w' : List ℕ) (x : Step) (m : Mark) → State reads n a d t ms w → t' ≡ t + k → t' ≤ a → 0 < x .choice → x .choice ≤ length ms → getD ms (place-of x) Open ≡ Open → open-mark m ≡ false →
-      ms' ≡ set ms (place-of x) m → w' ≡ set w d (number-of x) → rest reads (trail-of d w) ms ≡ tick k (rest reads (x ∷ trail-of d w) (set ms (place-of x) m)) → Goes d ms w (d + 1) t' ms' w'
+      ms' ≡ set ms (place-of x) m → w' ≡ set w d (entry-of x) → rest reads (trail-of d w) ms ≡ tick k (rest reads (x ∷ trail-of d w) (set ms (place-of x) m)) → Goes d ms w (d + 1) t' ms' w'
   goes-by d t k t' ms ms' w w' x m s tk q p l o f em ew z =
       let dn : d < length w = omega (arith, s .work-long, deep d t ms w (place-of x) s (omega arith) o) in
-      let e : trail-of (d + 1) (set w d (number-of x)) ≡ x ∷ trail-of d w = trail-push d w x dn in
-      rw (em, ew) (goes-on d t k (d + 1) t' ms (set ms (place-of x) m) w (set w d (number-of x)) s tk q (length-set ms (place-of x) m) (length-set w d (number-of x)) (rw e (held-push (trail-of d w) x ms m p l o f (s .held))) (rw e z))
+      let e : trail-of (d + 1) (set w d (entry-of x)) ≡ x ∷ trail-of d w = trail-push d w x dn in
+      rw (em, ew) (goes-on d t k (d + 1) t' ms (set ms (place-of x) m) w (set w d (entry-of x)) s tk q (length-set ms (place-of x) m) (length-set w d (entry-of x)) (rw e (held-push (trail-of d w) x ms m p l o f (s .held))) (rw e z))
 
   pub state-forced : (allows : List Mark → Type 0) → Laws n allows reads → (d t : ℕ) (ms ms' : List Mark) (w w' : List ℕ) (c : ℕ) (v : Answer) → State reads n a d t ms w → reads ms ≡ Forced c v →
-      ms' ≡ set ms (c - 1) (mark-of v) → w' ≡ set w d (number-of (step c false)) → Goes d ms w (d + 1) t ms' w'
+      ms' ≡ set ms (c - 1) (mark-of v) → w' ≡ set w d (entry-of (step c false)) → Goes d ms w (d + 1) t ms' w'
   state-forced allows laws d t ms ms' w w' c v s e em ew =
       let f = laws .forced-open ms c v (s .marks-long) e in
       let le : c ≤ length ms = omega (arith, s .marks-long, f .1) in
       goes-by d t 0 t ms ms' w w' (step c false) (mark-of v) s (omega arith) (s .within) (f .0) le (f .2) (not-open v) em ew (forced-rest reads (trail-of d w) ms c v (f .0) le (f .2) e)
 
   pub state-trial : (d t : ℕ) (ms ms' : List Mark) (w w' : List ℕ) (c : ℕ) → State reads n a d t ms w → reads ms ≡ Quiet → c ≡ first-open ms + 1 → c ≤ length ms → (t ≡ a → ⊥) →
-      ms' ≡ set ms (c - 1) Yes → w' ≡ set w d (number-of (step c true)) → Goes d ms w (d + 1) (t + 1) ms' w'
+      ms' ≡ set ms (c - 1) Yes → w' ≡ set w d (entry-of (step c true)) → Goes d ms w (d + 1) (t + 1) ms' w'
   state-trial d t ms ms' w w' c s e fc h ne em ew =
       let fi : c - 1 ≡ first-open ms = omega arith in
       let o : getD ms (c - 1) Open ≡ Open = rw fi (first-is ms (omega arith)) in

@@ -1,6 +1,6 @@
 -- The trail in the work list.
-use mathlib.Core.Path.{_≡_, refl, _∙_, ap, subst}
-use mathlib.Core.Bool.{Bool, true, false, cond}
+use mathlib.Core.Path.{_≡_, refl, ap, subst}
+use mathlib.Core.Bool.{Bool, true, false}
 use mathlib.Core.List.{List, [], _∷_}
 use mathlib.Core.Logic.{_≢_}
 use Prim.Native.Nat.{ℕ, _+_, _-_, _*_, _/_, _%_, _<_, _≤_, suc, zero}
@@ -11,19 +11,19 @@ use lib.Dec.{eqb}
 use lib.ListN.{length, getD, set, length-set}
 use lib.Seq.{getD-set-other, getD-set-same}
 use Rattle.std.specs.declared.option.Option.{Option}
-use Rattle.std.specs.declared.option.Option.the-variants.{Some, None}
+use Rattle.std.specs.declared.option.Option.the-variants.{Some}
 use Rattle.book.specs.declared.Mark.{Mark}
 use Rattle.book.specs.declared.Mark.the-variants.{Open, No}
 use Rattle.book.specs.Books.{open-mark}
 use Rattle.solver.specs.declared.trail.Step.{Step}
-use Rattle.solver.specs.Steps.{number-of, step-of, place-of, trail-of, Held, Unwinds}
+use Rattle.solver.specs.Steps.{entry-of, step-of, place-of, trail-of, Held, Unwinds}
 use Rattle.solver.specs.Tree.{opens}
 use Rattle.solver.proofs.Marks.{opens-unset, set-back}
 
 abbrev pub step : ℕ → Bool → Step
 step c t = record { choice = c; trial = t }
 
-entry-at : (c : ℕ) (t : Bool) → step-of (number-of (step c t)) ≡ step c t
+entry-at : (c : ℕ) (t : Bool) → step-of (entry-of (step c t)) ≡ step c t
 entry-at c true =
     let h : (2 * c + 1) / 2 ≡ c = omega arith in
     let e : eqb ((2 * c + 1) % 2) 1 ≡ true = eq-eqb ((2 * c + 1) % 2) 1 (omega arith) in
@@ -34,7 +34,7 @@ entry-at c false =
     rw (h, e)
 
 -- an entry gives its step back
-pub entry : (s : Step) → step-of (number-of s) ≡ s
+pub entry : (s : Step) → step-of (entry-of s) ≡ s
 entry s = entry-at (s .choice) (s .trial)
 
 pub length-trail : (d : ℕ) (w : List ℕ) → length (trail-of d w) ≡ d
@@ -49,10 +49,10 @@ trail-set (suc d) w k v h =
     let le : d ≤ k = omega arith in
     rw (getD-set-other w k d v 0 ne, trail-set d w k v le)
 
-pub trail-push : (d : ℕ) (w : List ℕ) (s : Step) → d < length w → trail-of (d + 1) (set w d (number-of s)) ≡ s ∷ trail-of d w
+pub trail-push : (d : ℕ) (w : List ℕ) (s : Step) → d < length w → trail-of (d + 1) (set w d (entry-of s)) ≡ s ∷ trail-of d w
 trail-push d w s h =
     let le : d ≤ d = omega arith in
-    rw (add-one d, getD-set-same w d (number-of s) 0 h, entry s, trail-set d w d (number-of s) le)
+    rw (add-one d, getD-set-same w d (entry-of s) 0 h, entry s, trail-set d w d (entry-of s) le)
 
 -- the latest step on top of the trail
 pub trail-pop : (d : ℕ) (w : List ℕ) (s : Step) → 0 < d → s ≡ step-of (getD w (d - 1) 0) → trail-of d w ≡ s ∷ trail-of (d - 1) w

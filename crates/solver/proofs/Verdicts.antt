@@ -1,10 +1,9 @@
 -- The verdict where the loop ends.
-use mathlib.Core.Path.{_≡_, refl, sym, _∙_, ap}
+use mathlib.Core.Path.{_≡_, ap}
 use mathlib.Core.List.{List}
-use Prim.Native.Nat.{ℕ, _+_, _<_, _≤_}
+use Prim.Native.Nat.{ℕ, _+_, _≤_}
 use native.Mathlib.Omega.{arith}
 use lib.ListN.{length, replicate, length-replicate}
-use Rattle.std.specs.declared.option.Option.{Option}
 use Rattle.std.specs.declared.option.Option.the-variants.{Some, None}
 use Rattle.book.specs.declared.Mark.{Mark}
 use Rattle.book.specs.declared.Mark.the-variants.{Open}
@@ -14,7 +13,7 @@ use Rattle.book.specs.Books.{Laws}
 use Rattle.solver.specs.declared.Ending.{Ending}
 use Rattle.solver.specs.declared.Ending.the-variants.{Found, None as NoneAllowed, Spent}
 use Rattle.solver.specs.declared.Verdict.{Verdict}
-use Rattle.solver.specs.Outcome.{verdict-of, Says, Ran}
+use Rattle.solver.specs.Outcome.{Says, Ran}
 use Rattle.solver.specs.Steps.{trail-of, Unwinds}
 use Rattle.solver.specs.Tree.{first-open, Explores}
 use Rattle.solver.proofs.Marks.{opens-new}

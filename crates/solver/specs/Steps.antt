@@ -1,6 +1,6 @@
 -- The trail of a search, and how the work list holds it.
 use mathlib.Core.Path.{_≡_}
-use mathlib.Core.Bool.{true, false, cond}
+use mathlib.Core.Bool.{false, cond}
 use mathlib.Core.List.{List, [], _∷_}
 use Prim.Native.Nat.{ℕ, _+_, _-_, _*_, _/_, _%_, _<_, _≤_, suc, zero}
 use lib.Dec.{eqb}
@@ -13,11 +13,11 @@ use Rattle.book.specs.Books.{open-mark}
 use Rattle.solver.specs.declared.trail.Step.{Step}
 use Rattle.solver.specs.Tree.{opens}
 
--- the number that the work list has for a step: its choice doubled, and one more for a trial that is not yet turned
-abbrev pub number-of : Step → ℕ
-number-of s = 2 * s .choice + cond (s .trial) 1 0
+-- the entry that the work list has for a step: its choice doubled, and one more for a trial that is not yet turned
+abbrev pub entry-of : Step → ℕ
+entry-of s = 2 * s .choice + cond (s .trial) 1 0
 
--- the step that a number of the work list stands for
+-- the step that an entry of the work list stands for
 abbrev pub step-of : ℕ → Step
 step-of w = record { choice = w / 2; trial = eqb (w % 2) 1 }
 
@@ -29,7 +29,7 @@ once-turned s = record { choice = s .choice; trial = false }
 abbrev pub place-of : Step → ℕ
 place-of s = s .choice - 1
 
--- the trail that the first d numbers of the work list stand for, the latest step first
+-- the trail that the first d entries of the work list stand for, the latest step first
 abbrev pub trail-of : ℕ → List ℕ → List Step
 trail-of zero w = []
 trail-of (suc d) w = step-of (getD w d 0) ∷ trail-of d w

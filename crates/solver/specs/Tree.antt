@@ -3,7 +3,7 @@ use mathlib.Core.Path.{_≡_}
 use mathlib.Core.Bool.{cond}
 use mathlib.Core.List.{List, [], _∷_}
 use mathlib.Core.Logic.{_⊎_}
-use Prim.Native.Nat.{ℕ, _+_, _-_, _<_, _≤_, suc}
+use Prim.Native.Nat.{ℕ, _+_, _-_, _^_, _<_, _≤_, suc}
 use lib.ListN.{length, set}
 use Rattle.std.specs.declared.option.Option.{Option}
 use Rattle.std.specs.declared.option.Option.the-variants.{Some, None}
@@ -44,7 +44,11 @@ FirstOf allows ms None = (b : List Mark) → allows b → Extends ms b → ⊥
 
 -- What holds of the tree of every lawful book, from any n marks.
 pub record TreeLaws (n : ℕ) (allows : List Mark → Type 0) (reads : List Mark → Reading) : Type 0 where
-  -- a search needs some number of trials and comes to some end
+  -- a search needs some number of trials and comes to some end ..
   pub total : (ms : List Mark) → length ms ≡ n → (t : ℕ) × (o : Option (List Mark)) × Explores reads ms t o
+  -- .. and to no other
+  pub single : (ms : List Mark) (t u : ℕ) (o p : Option (List Mark)) → Explores reads ms t o → Explores reads ms u p → (t ≡ u) × (o ≡ p)
+  -- with k marks open it needs at most 2 ^ k - 1 trials
+  pub few : (ms : List Mark) (t : ℕ) (o : Option (List Mark)) → Explores reads ms t o → t + 1 ≤ 2 ^ opens ms
   -- what it comes to is true of the book
   pub first : (ms : List Mark) (t : ℕ) (o : Option (List Mark)) → length ms ≡ n → Explores reads ms t o → FirstOf allows ms o

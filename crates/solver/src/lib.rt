@@ -4,12 +4,12 @@
 //! and some mark is open, the search *tries* yes at the lowest open choice. Where the marks are broken, the latest trial that is
 //! not yet turned is *turned*: its choice becomes no, and every mark made after it open again.
 ghost use mathlib.Core.Path.{_≡_};
-ghost use Prim.Native.Nat.{_+_, _<_, _≤_};
+ghost use Prim.Native.Nat.{_+_, _≤_};
 ghost use lib.ListN.{length, replicate};
 ghost use Rattle.std.specs.Options.{Cases};
 ghost use Rattle.std.specs.Vec.{made};
 ghost use Rattle.book.specs.declared.Mark.the-variants.{Open as OpenMark};
-ghost use Rattle.solver.specs.Outcome.{Means, Ran, Searched};
+ghost use Rattle.solver.specs.Outcome.{Alike, Means, Ran, Searched};
 ghost use Rattle.solver.specs.Tree.{first-open, TreeLaws};
 use book::Book;
 use book::Mark;
@@ -21,6 +21,8 @@ use trail::Step;
 use trail::advance;
 use trail::turn;
 
+#[cfg(test)]
+mod tests;
 mod trail;
 
 /// How a search ended.
@@ -42,7 +44,10 @@ pub struct Verdict {
 }
 
 /// Looks for the first arrangement that the book allows, in at most `allowance` trials. Both lists are to be n long, whatever
-/// they hold; after it the marks hold the arrangement that is found, and are open if there is none, and the work list is zeros.
+/// they hold. Afterwards the marks hold the arrangement that was found, or are all open, and the work list is zeros.
+///
+/// `does` tells what is said, counted, left in the lists and refused; `truth` what the ending means for the book; `alike` that
+/// equal books are searched alike; `tree` that every search has one end, which is true of the book and not too many trials away.
 pub fn search<B: Book>(
     book: &B,
     allowance: u64,
@@ -51,6 +56,7 @@ pub fn search<B: Book>(
 ) -> Result<Verdict, JobFault>
     ensures does { λ r. ⌜ Searched (B·Book .size (now (book .entry))) (B·Book .reads (now (book .entry))) allowance (now (marks .entry)) (now (work .entry)) (now (marks .exit)) (now (work .exit)) r ⌝ }
     ensures truth { λ r. ⌜ made r (λ v. Means (B·Book .allows (now (book .entry))) (v .ending) (now (marks .exit))) ⌝ }
+    ensures alike { λ _. ⌜ Alike (B·Book .size (now (book .entry))) (B·Book .reads (now (book .entry))) ⌝ }
     ensures tree { λ _. ⌜ TreeLaws (B·Book .size (now (book .entry))) (B·Book .allows (now (book .entry))) (B·Book .reads (now (book .entry))) ⌝ }
 {
     let n = book.choices() as usize;
@@ -69,7 +75,7 @@ pub fn search<B: Book>(
     Ok(verdict)
 }
 
-/// Searches from open marks. An arrangement that is found is left in the marks.
+/// Searches from open marks. An arrangement that is found stands in the marks; other endings leave them as they happen to be.
 fn run<B: Book>(book: &B, allowance: u64, marks: &mut [Mark], work: &mut [u16]) -> Verdict
     requires { ⌜ now marks ≡ replicate (B·Book .size (now book)) OpenMark ⌝ ∗ ⌜ length (now work) ≡ B·Book .size (now book) ⌝ }
     ensures { λ v. ⌜ Ran (B·Book .size (now (book .entry))) (B·Book .reads (now (book .entry))) allowance v (now (marks .exit)) ⌝ }

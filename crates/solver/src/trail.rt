@@ -1,8 +1,8 @@
 //! The trail of marks made, kept in the work list: an entry for each mark that is not open.
 ghost use mathlib.Core.Path.{_≡_};
-ghost use Prim.Native.Nat.{_-_, _<_, _≤_};
+ghost use Prim.Native.Nat.{_<_, _≤_};
 ghost use lib.ListN.{length, set};
-ghost use Rattle.solver.specs.Steps.{number-of, step-of, once-turned, place-of, trail-of, Held, Unwinds};
+ghost use Rattle.solver.specs.Steps.{entry-of, step-of, once-turned, place-of, trail-of, Held, Unwinds};
 use book::Mark;
 
 /// One step of the trail: a choice, and whether it is a trial that is not yet turned.
@@ -16,7 +16,7 @@ impl Step {
     /// The step as the work list has it.
     fn to_entry(self) -> u16
         requires { ⌜ self .choice ≤ 4096 ⌝ }
-        ensures { λ r. ⌜ r ≡ number-of self ⌝ }
+        ensures { λ r. ⌜ r ≡ entry-of self ⌝ }
     {
         2 * self.choice + u16::from(self.trial)
     }
@@ -54,7 +54,7 @@ impl Step {
 pub(crate) fn advance(step: Step, mark: Mark, marks: &mut [Mark], work: &mut [u16], depth: usize)
     requires { ⌜ 0 < step .choice ⌝ ∗ ⌜ step .choice ≤ length (now marks) ⌝ ∗ ⌜ length (now marks) ≤ 4096 ⌝ ∗ ⌜ depth < length (now work) ⌝ }
     ensures marked { λ _. ⌜ now (marks .exit) ≡ set (now (marks .entry)) (place-of step) mark ⌝ }
-    ensures noted { λ _. ⌜ now (work .exit) ≡ set (now (work .entry)) depth (number-of step) ⌝ }
+    ensures noted { λ _. ⌜ now (work .exit) ≡ set (now (work .entry)) depth (entry-of step) ⌝ }
 {
     marks[step.place()] = mark;
     work[depth] = step.to_entry();

@@ -1,5 +1,5 @@
 use native.Mathlib.Omega.{arith}
-use Rattle.solver.proofs.Marks.{first-next, first-end}
+use Rattle.solver.proofs.Marks.{first-next}
 use Rattle.solver.proofs.lowest_open.Needs as need
 
 pub returns-then-is-open : need.returns-then-is-open

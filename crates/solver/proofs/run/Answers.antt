@@ -1,10 +1,7 @@
-use mathlib.Core.Path.{_≡_, sym, _∙_, ap}
-use Prim.Native.Nat.{_+_, _<_, _≤_}
+use mathlib.Core.Path.{sym, _∙_, ap}
 use native.Mathlib.Omega.{arith}
-use lib.ListN.{length, set}
-use Rattle.book.specs.declared.Mark.{Mark}
-use Rattle.solver.specs.Tree.{first-open}
-use Rattle.solver.proofs.State.{Goes, Room, forced-room, trial-room, shallow, state-start, state-forced, state-trial, state-turned}
+use lib.ListN.{set}
+use Rattle.solver.proofs.State.{forced-room, trial-room, shallow, state-start, state-forced, state-trial, state-turned}
 use Rattle.solver.proofs.Verdicts.{ran-found, ran-spent, ran-none}
 use Rattle.solver.proofs.run.Needs as need
 

@@ -1,14 +1,14 @@
-use mathlib.Core.Path.{_≡_, refl, sym, _∙_, ap, subst}
-use mathlib.Core.Bool.{true, false}
+use mathlib.Core.Path.{_≡_, ap}
+use mathlib.Core.Bool.{false}
 use mathlib.Core.List.{List, _∷_}
-use Prim.Native.Nat.{ℕ, _+_, _-_, _<_, _≤_}
+use Prim.Native.Nat.{ℕ, _+_, _-_, _<_}
 use native.Mathlib.Omega.{arith}
-use lib.ListN.{length, getD, set}
-use Rattle.std.specs.declared.option.Option.the-variants.{Some, None}
+use lib.ListN.{length, set}
+use Rattle.std.specs.declared.option.Option.the-variants.{Some}
 use Rattle.book.specs.declared.Mark.{Mark}
-use Rattle.book.specs.declared.Mark.the-variants.{Open, No}
+use Rattle.book.specs.declared.Mark.the-variants.{No}
 use Rattle.solver.specs.declared.trail.Step.{Step}
-use Rattle.solver.specs.Steps.{number-of, place-of, trail-of, Unwinds}
+use Rattle.solver.specs.Steps.{trail-of, Unwinds}
 use Rattle.solver.proofs.Trails.{step, trail-pop, trail-push, held-pop, unwind-here, unwind-on}
 use Rattle.solver.proofs.trail.turn.Needs as need
 
