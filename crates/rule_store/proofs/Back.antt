@@ -14,7 +14,7 @@ use Rattle.rules.specs.Storage.{run, choices, items, side-items, rule-of, decod
 use Rattle.rule_file.specs.Form.{form, item-counts, item-entries, all-counts, all-entries, Within}
 use Rattle.rule_file.specs.declared.line.Part.the-variants as part
 use Rattle.rule_store.specs.declared.fill.Filler.{Filler}
-use Rattle.rule_store.specs.Filling.{Store, put-part, fills}
+use Rattle.rule_store.specs.Filling.{Store, put-part, fills, unfilled}
 use Rattle.rule_store.specs.Storing.{Full}
 use Rattle.rule_store.proofs.Placing.{flat, count-row, count-rows, all-flat, past-body, past-head, all-rows, counts-past-body, counts-past-head, rule-row, rule-rows, rules-put, after-rules, rules-laid}
 
@@ -118,10 +118,6 @@ rule-rows-length e c (r ∷ rs) = omega (arith, rule-rows-length (past-head e r)
 -- what is laid into a list from its start stands in front
 in-front : {A : Type 0} (l vs : List A) → length vs ≤ length l → sets l 0 vs ≡ vs ++ drop (0 + length vs) l
 in-front l vs h = sets-eq vs l 0 (omega arith)
-
--- the storage before the first part
-abbrev pub unfilled : Filler → List RuleRow → List CountRow → List ℕ → Store
-unfilled f rs cs xs = record { filler = f; tally = record { declared = 0; rules = 0; counts = 0; entries = 0 }; rules = rs; counts = cs; entries = xs }
 
 -- Storage that is filled with the parts of a file means the file's rules.
 pub filled-means :

@@ -1,2 +1,3 @@
-pub mod Placing
 pub mod Back
+pub mod Going
+pub mod Placing

@@ -1,4 +1,5 @@
 -- How the parts of a file fill the storage.
+use mathlib.Core.Path.{_≡_}
 use mathlib.Core.List.{List, [], _∷_}
 use Prim.Native.Nat.{ℕ}
 use lib.ListN.{set}
@@ -8,7 +9,10 @@ use Rattle.rules.specs.declared.Side.{Side}
 use Rattle.rule_file.specs.declared.file.Tally.{Tally}
 use Rattle.rule_file.specs.declared.line.Part.{Part}
 use Rattle.rule_file.specs.declared.line.Part.the-variants as part
+use Rattle.rule_file.specs.Form.{words-only}
+use Rattle.rule_file.specs.Machine.{Mach, Passes, start-mach}
 use Rattle.rule_file.specs.Reader.{counted}
+use Rattle.scan.specs.Bytes.{file-words}
 use Rattle.rule_store.specs.declared.fill.Filler.{Filler}
 
 -- a side that starts with the next entry and the next count
@@ -117,3 +121,23 @@ put-part s p =
 abbrev pub fills : Store → List Part → Store
 fills s [] = s
 fills s (p ∷ ps) = fills (put-part s p) ps
+
+-- the storage before the first part
+abbrev pub unfilled : Filler → List RuleRow → List CountRow → List ℕ → Store
+unfilled f rs cs xs = record { filler = f; tally = record { declared = 0; rules = 0; counts = 0; entries = 0 }; rules = rs; counts = cs; entries = xs }
+
+-- a filler before the first part
+abbrev pub fresh : Filler
+fresh =
+    record {
+      rule = record { body = side-from (record { declared = 0; rules = 0; counts = 0; entries = 0 }); head = side-from (record { declared = 0; rules = 0; counts = 0; entries = 0 }) };
+      «rule_at» = 0;
+      count = record { lower = 0; upper = 0; choices = record { start = 0; end = 0 } };
+      «count_at» = 0;
+    }
+
+-- Where the words of a file pass as some parts, the storage is filled with those.
+abbrev pub Filled : List ℕ → List RuleRow → List CountRow → List ℕ → List RuleRow → List CountRow → List ℕ → Type 0
+Filled bs rs cs xs rs' cs' xs' =
+    (ps : List Part) (m : Mach) → Passes start-mach (words-only (file-words bs)) ps m →
+    (rs' ≡ fills (unfilled fresh rs cs xs) ps .rules) × (cs' ≡ fills (unfilled fresh rs cs xs) ps .counts) × (xs' ≡ fills (unfilled fresh rs cs xs) ps .entries)

@@ -1,7 +1,7 @@
 //! The filling of storage from a file that was checked.
 ghost use mathlib.Core.Path.{_≡_};
 ghost use lib.ListN.{set};
-ghost use Rattle.rule_store.specs.Filling.{side-from, side-to, filler-after, rules-after, counts-after, entries-after};
+ghost use Rattle.rule_store.specs.Filling.{side-from, side-to, filler-after, rules-after, counts-after, entries-after, fresh, Filled};
 use rule_file::FileReader;
 use rule_file::Part;
 use rule_file::Tally;
@@ -61,7 +61,9 @@ fn end(side: &mut Side, tally: Tally)
 }
 
 impl Filler {
-    fn new() -> Filler {
+    fn new() -> Filler
+        ensures { λ r. ⌜ r ≡ fresh ⌝ }
+    {
         Filler {
             rule: RuleRow {
                 body: NO_SIDE,
@@ -126,13 +128,17 @@ pub(super) fn fill(
     rules: &mut [RuleRow],
     counts: &mut [CountRow],
     entries: &mut [u16],
-) {
+)
+    ensures { λ _. ⌜ Filled (now (bytes .entry)) (now (rules .entry)) (now (counts .entry)) (now (entries .entry)) (now (rules .exit)) (now (counts .exit)) (now (entries .exit)) ⌝ }
+{
     let mut reader = FileReader::new(bytes);
     let mut filler = Filler::new();
     loop {
         let before = reader.tally();
-        let Ok(part) = reader.next_part() else {
-            return;
+        let part = match reader.next_part() {
+            Ok(part) => part,
+            // A file that was checked has no fault.
+            Err(_) => return,
         };
         if let Part::End = part {
             return;
