@@ -5,8 +5,11 @@ use mathlib.Core.List.{List, [], _∷_}
 use mathlib.Core.Logic.{inl, inr}
 use Prim.Native.Nat.{ℕ}
 use native.Mathlib.Omega.{arith}
+use lib.ListN.{length, take}
 use Rattle.rules.specs.declared.CountRow.{CountRow}
 use Rattle.rules.specs.declared.RuleRow.{RuleRow}
+use Rattle.rules.specs.Rules.{Rule}
+use Rattle.rules.specs.Storage.{decode}
 use Rattle.scan.specs.Bytes.{file-words}
 use Rattle.scan.specs.Scans.{ahead}
 use Rattle.scan.specs.Words.{Placed}
@@ -15,12 +18,14 @@ use Rattle.rule_file.specs.declared.file.FileReader.{FileReader}
 use Rattle.rule_file.specs.declared.line.Part.{Part}
 use Rattle.rule_file.specs.declared.line.Part.the-variants as part
 use Rattle.rule_file.specs.Files.{Started}
-use Rattle.rule_file.specs.Form.{words-only}
+use Rattle.rule_file.specs.Form.{words-only, form, Within}
 use Rattle.rule_file.specs.Machine.{Mach, mach, start-mach, Passes, Stops, Moved-on}
 use Rattle.rule_file.specs.Reader.{is-end}
 use Rattle.rule_file.proofs.Callers.{Stepping, passes-step, passes-not-refused}
 use Rattle.rule_file.specs.Machine.{stops}
 use Rattle.rule_store.specs.declared.fill.Filler.{Filler}
+use Rattle.rule_store.specs.Storing.{Full}
+use Rattle.rule_store.proofs.Back.{filled-means}
 use Rattle.rule_store.specs.Filling.{Store, put-part, fills, filler-after, rules-after, counts-after, entries-after, unfilled, fresh, Filled}
 
 -- Whatever parts the file passes as, what is left of them fills the storage as they do.
@@ -95,3 +100,14 @@ going-end bs r r' f rs cs xs rs0 cs0 xs0 w g ps m k = by (g ps m k)
 pub going-stops : (bs : List ℕ) (start : Store) (r : FileReader) (s : Store) (fault : Fault) (rs0 rs : List RuleRow) (cs0 cs : List CountRow) (xs0 xs : List ℕ) →
     Stops (mach r) (ahead (r .scanner)) fault → Going bs start r s → Filled bs rs0 cs0 xs0 rs cs xs
 going-stops bs start r s fault rs0 rs cs0 cs xs0 xs stop g ps m k = absurd (passes-not-refused (stops stop) (g ps m k .1))
+
+-- A file that passes as the form of some rules leaves them in the storage.
+pub stored :
+    (bs : List ℕ) (rows rows' : List RuleRow) (cs cs' : List CountRow) (xs xs' : List ℕ) (n : ℕ) (rs : List Rule) (m : Mach) → Filled bs rows cs xs rows' cs' xs' →
+    Passes start-mach (words-only (file-words bs)) (form n (length rs) rs) m → Full (length rows) (length cs) (length xs) → Within n rs →
+    decode (take (length rs) rows') cs' xs' ≡ rs
+stored bs rows rows' cs cs' xs xs' n rs m filled pass full within =
+    let s : Store = fills (unfilled fresh rows cs xs) (form n (length rs) rs) in
+    let f = filled (form n (length rs) rs) m pass in
+    ap (λ (l : List RuleRow). decode (take (length rs) l) cs' xs') (f .0) ∙ ap (λ (l : List CountRow). decode (take (length rs) (s .rules)) l xs') (f .1) ∙
+    ap (λ (l : List ℕ). decode (take (length rs) (s .rules)) (s .counts) l) (f .2) ∙ filled-means fresh rows cs xs n (length rs) rs full within s refl
