@@ -1,3 +1,2 @@
-pub mod Pieces
-pub mod Tens
 pub mod Line
+pub mod Room

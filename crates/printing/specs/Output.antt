@@ -1,15 +1,15 @@
--- Bytes written into a list, and the yes choices as a line.
+-- What printing answers, and the yes choices as a line.
 use mathlib.Core.Path.{_≡_}
 use mathlib.Core.Bool.{Bool, true, false}
 use mathlib.Core.List.{List, [], _∷_, _++_}
-use Prim.Native.Nat.{ℕ, suc, _+_, _≤_, _<_}
-use lib.ListN.{length, drop}
-use lib.Seq.{sets}
+use Prim.Native.Nat.{ℕ, suc, _<_}
+use lib.ListN.{length}
 use Rattle.std.specs.Written.{decimal}
 use Rattle.std.specs.declared.result.Result.{Result}
 use Rattle.std.specs.declared.result.Result.the-variants.{Ok, Err}
 use Rattle.book.specs.declared.Mark.{Mark}
 use Rattle.book.specs.declared.Mark.the-variants.{Open, Yes, No}
+use Rattle.output.specs.Writing.{Fits}
 use Rattle.refusal.specs.declared.JobCause.the-variants.{ListTooShort}
 use Rattle.refusal.specs.declared.JobFault.{JobFault}
 
@@ -34,13 +34,8 @@ spaced first (c ∷ cs) = (gap first ++ decimal c) ++ spaced false cs
 unfoldable pub choice-line : List Mark → List ℕ
 choice-line ms = spaced true (yes-choices 1 ms) ++ (10 ∷ [])
 
--- A text laid over a list from a place on, as far as the list goes, and the place after the whole text.
-pub record Wrote (out : List ℕ) (at : ℕ) (text : List ℕ) (out' : List ℕ) (end : ℕ) : Type 0 where
-  pub bytes : out' ≡ sets out at text
-  pub place : end ≡ at + length text
-
 -- A text printed into a list: its length is answered and the bytes after it are untouched; a list that is too short is
 -- refused and stays as it was.
 abbrev pub Printed : List ℕ → List ℕ → List ℕ → Result ℕ JobFault → Type 0
-Printed text out out' (Ok k) = (k ≡ length text) × (k ≤ length out) × (out' ≡ text ++ drop k out)
+Printed text out out' (Ok k) = Fits text out out' k
 Printed text out out' (Err e) = (e ≡ record { cause = ListTooShort; place = 0 }) × (length out < length text) × (out' ≡ out)

@@ -1,7 +1,12 @@
-use Rattle.printing.specs.Words.{refusal-text}
-use Rattle.printing.proofs.Pieces.{measured}
+use mathlib.Core.Path.{refl, sym}
+use native.Mathlib.Omega.{arith}
+use Rattle.output.proofs.Pieces.{no-room}
+use Rattle.printing.proofs.Room.{printed}
 use Rattle.printing.proofs.print_refusal.Needs as need
+
+pub returns-then-not-has-room : need.returns-then-not-has-room
+returns-then-not-has-room c = (refl, no-room _ (omega arith) (c .put-refusal .ensures) (sym (c .if-not-has-room .ensures tt)), refl)
 
 pub returns : need.returns
 returns c =
-    measured (refusal-text (c .args .refusal) (c .args .line)) (c .args .out .now) (c .put-refusal-2 .last .out) _ (c .put-refusal .result) (c .put-refusal-2 .result) (c .put-refusal .ensures) (c .put-refusal-2 .ensures) (c .if-put-refusal-out .left)
+    printed _ (c .args .out .now) _ _ (c .ok-or .result) (omega arith) (c .put-refusal .ensures) (c .if-not-has-room .ensures tt) (c .put-refusal-2 .ensures) (c .ok-or .ensures .value)

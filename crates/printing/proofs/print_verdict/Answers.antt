@@ -1,11 +1,12 @@
-use mathlib.Core.Path.{_≡_, subst}
-use mathlib.Core.List.{List}
-use lib.ListN.{take}
-use Rattle.book.specs.declared.Mark.{Mark}
-use Rattle.printing.specs.Words.{verdict-text}
-use Rattle.printing.proofs.Pieces.{measured}
+use mathlib.Core.Path.{refl, sym}
+use native.Mathlib.Omega.{arith}
+use Rattle.output.proofs.Pieces.{no-room}
+use Rattle.printing.proofs.Room.{printed}
 use Rattle.printing.proofs.print_verdict.Needs as need
+
+pub returns-then-not-has-room : need.returns-then-not-has-room
+returns-then-not-has-room c = (refl, no-room _ (omega arith) (c .put-verdict .ensures) (sym (c .if-not-has-room .ensures tt)), refl)
 
 pub returns : need.returns
 returns c =
-    rw (← (c .first-choices-marks .ensures .same)) (measured (verdict-text (c .args .verdict) (c .first-choices-marks .result .now)) (c .args .out .now) (c .put-verdict-2 .last .out) _ (c .put-verdict .result) (c .put-verdict-2 .result) (c .put-verdict .ensures) (c .put-verdict-2 .ensures) (c .if-put-verdict-out .left))
+    printed _ (c .args .out .now) _ _ (c .ok-or .result) (omega arith) (c .put-verdict .ensures) (c .if-not-has-room .ensures tt) (c .put-verdict-2 .ensures) (c .ok-or .ensures .value)

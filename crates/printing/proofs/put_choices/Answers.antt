@@ -1,20 +1,23 @@
-use mathlib.Core.Path.{sym, _∙_}
-use native.Mathlib.Omega.{arith}
-use Rattle.printing.proofs.Line.{ahead-start, ahead-yes, ahead-other, ahead-end}
+use Rattle.output.proofs.Pieces.{onward, onward-cut, onward-same}
+use Rattle.printing.proofs.Line.{ahead, at-start, at-yes, at-other, at-end}
 use Rattle.printing.proofs.put_choices.Needs as need
-use Rattle.printing.proofs.put_choices.Needs.{in-Yes, in-rest}
+use Rattle.printing.proofs.put_choices.Needs.{in-Yes·in-Continue-at, in-rest}
+use mathlib.Core.Bool.{false}
+use Prim.Native.Nat.{_+_}
 
 pub loop-i-holds : need.loop-i-holds
-loop-i-holds c = ahead-start (c .args .marks .now) (c .args .start) (c .args .out .now)
+loop-i-holds c = onward-same (λ out' r w. w) (at-start (c .args .marks .now))
+
+pub returns-in-Break-at : need.returns-in-Break-at
+returns-in-Break-at c =
+    rw (c .from-residual .ensures) (onward-cut (ahead false (c .loop-i .i + 1) (c .args .marks .now)) _ (c .loop-i .inv) (at-yes (c .loop-i .first) (c .loop-i .i) (c .args .marks .now) (c .loop-i-test .taken) (c .in-Yes .is)) (c .in-Break-at .ensures tt))
 
 pub loop-i-again : need.loop-i-again
 loop-i-again c =
     elim (c .match-mark .came) [
-      | in-Yes w ↦ rw (w .first-is, w .at-is, w .out-is) (ahead-yes _ _ _ (c .loop-i .i) (c .loop-i .first) (c .loop-i .at) (c .loop-i .out) _ _ (c .loop-i-test .taken) (w .in-Yes .is) (w .put-choice-at .ensures .text) (w .put-choice-at .ensures .near) (c .loop-i .inv))
-      | in-rest w ↦ rw (w .first-is, w .at-is, w .out-is) (ahead-other _ _ _ (c .loop-i .i) (c .loop-i .first) (c .loop-i .at) (c .loop-i .out) (c .loop-i-test .taken) (w .in-rest .not-Yes) (c .loop-i .inv))
+      | in-Yes·in-Continue-at w ↦ rw (w .first-is, w .at-is, w .out-is) (onward (c .loop-i .inv) (at-yes (c .loop-i .first) (c .loop-i .i) (c .args .marks .now) (c .loop-i-test .taken) (w .in-Yes .is)) (w .in-Continue-at .ensures tt))
+      | in-rest w ↦ rw (w .first-is, w .at-is, w .out-is) (onward-same (c .loop-i .inv) (at-other (c .loop-i .first) (c .loop-i .i) (c .args .marks .now) (c .loop-i-test .taken) (w .in-rest .not-Yes)))
     ]
 
 pub returns : need.returns
-returns c =
-    let end = ahead-end _ _ _ _ _ _ _ (c .loop-i-test .left) (c .loop-i .inv) in
-    record { bytes = c .put .ensures .bytes ∙ sym (end .0); place = c .put .ensures .place ∙ sym (end .1) }
+returns c = onward-same (c .loop-i .inv) (at-end _ _ _ (c .loop-i-test .left)) _ _ (c .put .ensures .text)

@@ -1,6 +1,6 @@
 use native.Mathlib.Omega.{arith}
-use Rattle.printing.proofs.Tens.{room, half-start, half-more, half-last}
-use Rattle.printing.proofs.digits.Needs as need
+use Rattle.output.proofs.Tens.{room, half-start, half-more, half-last}
+use Rattle.output.proofs.digits.Needs as need
 
 pub loop-left-holds : need.loop-left-holds
 loop-left-holds c = half-start _ _ (omega arith) (omega arith)

@@ -1,6 +1,6 @@
 use Rattle.std.specs.Written.{decimal}
-use Rattle.printing.proofs.Tens.{Half}
-use Rattle.printing.proofs.digits.Given as given
+use Rattle.output.proofs.Tens.{Half}
+use Rattle.output.proofs.digits.Given as given
 
 abbrev pub Inv-loop-left : given.InvT-loop-left
 Inv-loop-left l = Half (decimal (l .number)) (l .left) (l .at) (l .buffer)

@@ -2,7 +2,7 @@ use mathlib.Core.Path.{_≡_}
 use Prim.Native.Nat.{_+_}
 use lib.ListN.{drop}
 use lib.Seq.{sets}
-use Rattle.printing.proofs.put.Given as given
+use Rattle.output.proofs.put.Given as given
 
 -- what is left of the text, laid over what is there now, gives the same
 abbrev pub Inv-loop-i : given.InvT-loop-i
