@@ -9,13 +9,11 @@ use book::Reading;
 use rule_book::RuleBook;
 use rule_book::RuleBookBook;
 use rule_store::read_file;
-use rules::CountRow;
 use rules::MAX_COUNTS;
 use rules::MAX_ENTRIES;
 use rules::MAX_RULES;
-use rules::RuleRow;
-use rules::Side;
-use rules::Span;
+use rules::NO_COUNT;
+use rules::NO_RULE;
 use setting::print_search;
 use std::error::AnyError;
 use std::fs;
@@ -29,24 +27,6 @@ const MAX_CHOICES: usize = 4096;
 
 /// More bytes than the longest verdict takes: 4,096 choices of at most five bytes each, and the first line.
 const MOST_OUTPUT: usize = 32768;
-
-const NO_SPAN: Span = Span { start: 0, end: 0 };
-
-const NO_SIDE: Side = Side {
-    entries: NO_SPAN,
-    counts: NO_SPAN,
-};
-
-const NO_RULE: RuleRow = RuleRow {
-    body: NO_SIDE,
-    head: NO_SIDE,
-};
-
-const NO_COUNT: CountRow = CountRow {
-    lower: 0,
-    upper: 0,
-    choices: NO_SPAN,
-};
 
 /// A set of atoms that may be a model, by the choices that they are.
 #[derive(Clone, Copy)]

@@ -6,6 +6,8 @@ use rule_file::FileReader;
 use rule_file::Part;
 use rule_file::Tally;
 use rules::CountRow;
+use rules::NO_SIDE;
+use rules::NO_SPAN;
 use rules::RuleRow;
 use rules::Side;
 use rules::Span;
@@ -18,13 +20,6 @@ struct Filler {
     count: CountRow,
     count_at: u16,
 }
-
-const NO_SPAN: Span = Span { start: 0, end: 0 };
-
-const NO_SIDE: Side = Side {
-    entries: NO_SPAN,
-    counts: NO_SPAN,
-};
 
 // Writes an element, where the list has that place.
 fn store<T: Copy>(list: &mut [T], at: u16, value: T)

@@ -39,3 +39,22 @@ pub const MAX_RULES: usize = 2048;
 pub const MAX_COUNTS: usize = 1024;
 
 pub const MAX_ENTRIES: usize = 16384;
+
+/// Rows of nothing: what storage may hold before it is filled.
+pub const NO_SPAN: Span = Span { start: 0, end: 0 };
+
+pub const NO_SIDE: Side = Side {
+    entries: NO_SPAN,
+    counts: NO_SPAN,
+};
+
+pub const NO_RULE: RuleRow = RuleRow {
+    body: NO_SIDE,
+    head: NO_SIDE,
+};
+
+pub const NO_COUNT: CountRow = CountRow {
+    lower: 0,
+    upper: 0,
+    choices: NO_SPAN,
+};

@@ -13,35 +13,15 @@ use rule_book::RuleBook;
 use rule_book::RuleBookBook;
 use rule_file::RefusalFromFile;
 use rule_store::read_file;
-use rules::CountRow;
 use rules::MAX_COUNTS;
 use rules::MAX_ENTRIES;
 use rules::MAX_RULES;
-use rules::RuleRow;
-use rules::Side;
-use rules::Span;
+use rules::NO_COUNT;
+use rules::NO_RULE;
 use solver::search;
 
 /// The most choices that a sheet has.
 const MAX_CHOICES: usize = 4096;
-
-const NO_SPAN: Span = Span { start: 0, end: 0 };
-
-const NO_SIDE: Side = Side {
-    entries: NO_SPAN,
-    counts: NO_SPAN,
-};
-
-const NO_RULE: RuleRow = RuleRow {
-    body: NO_SIDE,
-    head: NO_SIDE,
-};
-
-const NO_COUNT: CountRow = CountRow {
-    lower: 0,
-    upper: 0,
-    choices: NO_SPAN,
-};
 
 /// Searches a book and prints the verdict.
 pub fn print_search<B: Book>(book: &B, allowance: u64, out: &mut [u8]) -> Result<usize, JobFault>

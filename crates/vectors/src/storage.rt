@@ -5,29 +5,9 @@ use refusal::RefusalDebug;
 use refusal::RefusalPartialEq;
 use rule_file::RefusalFromFile;
 use rule_store::read_file;
-use rules::CountRow;
-use rules::RuleRow;
-use rules::Side;
-use rules::Span;
+use rules::NO_COUNT;
+use rules::NO_RULE;
 use std::test::*;
-
-const NO_SPAN: Span = Span { start: 0, end: 0 };
-
-const NO_SIDE: Side = Side {
-    entries: NO_SPAN,
-    counts: NO_SPAN,
-};
-
-const NO_RULE: RuleRow = RuleRow {
-    body: NO_SIDE,
-    head: NO_SIDE,
-};
-
-const NO_COUNT: CountRow = CountRow {
-    lower: 0,
-    upper: 0,
-    choices: NO_SPAN,
-};
 
 /// Whether a file is refused for want of storage where so much is lent.
 fn too_small(rules: usize, counts: usize, entries: usize) -> Result<bool, Fail> {
