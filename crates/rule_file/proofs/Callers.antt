@@ -74,7 +74,7 @@ passes-once qs z (goes-on {m = m} {m′ = n} {m″ = y} {w = w} {p = p} {ws = ws
     by ih (inr u) = let i = ih (u .1 .0) (u .1 .2) in (ap (λ (r : List Part). p ∷ r) (i .0) ∙ sym (u .1 .1), i .1)
 
 -- a word that is refused is not taken
-no-fault : (m x : Mach) (i : ℕ) (w : Word) (p : Part) → Takes m w p x → word-fault m i w ≡ None
+pub no-fault : (m x : Mach) (i : ℕ) (w : Word) (p : Part) → Takes m w p x → word-fault m i w ≡ None
 no-fault m x i w p t = ap (by-scan m i) (t .scans) ∙ rw (t .played, t .right, t .room)
 
 pub stops-not-takes : (x : Mach) (p : Part) {m : Mach} {i : ℕ} {w : Word} {ws : List Placed} {f : Fault} → Stops m ((i, w) ∷ ws) f → Takes m w p x → ⊥

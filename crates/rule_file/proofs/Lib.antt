@@ -1,6 +1,12 @@
+pub mod Answering
 pub mod Callers
 pub mod Ends
 pub mod Feeds
+pub mod Held
+pub mod Laid
+pub mod Limits
 pub mod Moving
 pub mod Reading
+pub mod Spelling
+pub mod Telling
 pub mod Walks

@@ -5,7 +5,7 @@ ghost use lib.ListN.{length};
 ghost use Rattle.std.specs.Results.{Cases};
 ghost use Rattle.rule_file.specs.Faults.{line-of, located};
 ghost use Rattle.rule_file.specs.Reader.{Counted, Nearer, Tallied};
-ghost use Rattle.rule_file.specs.Files.{Started, Checked};
+ghost use Rattle.rule_file.specs.Files.{Started, Checked, Passed-as-form, Spelled-once, Answered-once};
 ghost use Rattle.rule_file.specs.Machine.{mach, surplus-fault, next-fault, Moves, Read-through, Passed};
 ghost use Rattle.scan.specs.Scans.{ahead};
 use super::fault::Fault;
@@ -157,8 +157,7 @@ impl<'a> FileReader<'a> {
 
 // Reads the file to its end.
 fn read_through(bytes: &[u8]) -> Result<Extent, Fault>
-    ensures passes { λ r. ⌜ Read-through (now (bytes .entry)) r ⌝ }
-    ensures few { λ r. ⌜ Cases r (λ x. x .rules ≤ 2048) (λ _. Unit {0}) ⌝ }
+    ensures { λ r. ⌜ Read-through (now (bytes .entry)) r ⌝ }
 {
     let mut reader = FileReader::new(bytes);
     loop {
@@ -198,6 +197,9 @@ fn refused(fault: Fault, bytes: &[u8]) -> FileFault
 pub fn check_file(bytes: &[u8]) -> Result<Extent, FileFault>
     ensures checked { λ r. ⌜ Checked (now (bytes .entry)) r ⌝ }
     ensures passes { λ r. ⌜ Passed (now (bytes .entry)) r ⌝ }
+    ensures parts { λ _. ⌜ Passed-as-form ⌝ }
+    ensures spelled { λ _. ⌜ Spelled-once ⌝ }
+    ensures answered { λ _. ⌜ Answered-once ⌝ }
 {
     if bytes.len() > MAX_BYTES {
         return Err(refused(Fault::File(FileCause::Bytes, MAX_BYTES), bytes));
