@@ -25,6 +25,10 @@ piece {xs} {l} ys (laid end e p) = rw (e, p) (sets-append xs ys l _)
 pub place : {xs l l' : List ℕ} {i i' : ℕ} → Wrote l i xs l' (Some i') → i' ≡ i + length xs
 place (laid end e p) = p
 
+-- a text that is shown to be another
+pub same-text : {xs ys l l' : List ℕ} {i : ℕ} {r : Option ℕ} → xs ≡ ys → Wrote l i ys l' r → Wrote l i xs l' r
+same-text {l = l} {l' = l'} {i = i} {r = r} e w = subst (λ (t : List ℕ). Wrote l i t l' r) (sym e) w
+
 -- a piece, and then the rest of the text, be it refused
 pub and-then : {xs ys l l' l'' : List ℕ} {i i' : ℕ} {r : Option ℕ} → Wrote l i xs l' (Some i') → Wrote l' i' ys l'' r → Wrote l i (xs ++ ys) l'' r
 and-then {xs} {ys} v (laid end e p) = laid end (e ∙ sym (piece ys v)) (omega (arith, place v, length-append xs ys))
@@ -45,15 +49,15 @@ Onward out start whole now at left = (out' : List ℕ) (r : Option ℕ) → Wrot
 
 -- one piece more
 pub onward : {out whole now now' left left' xs : List ℕ} {start at at' : ℕ} → Onward out start whole now at left → left ≡ xs ++ left' → Wrote now at xs now' (Some at') → Onward out start whole now' at' left'
-onward {now = now} {at = at} o e v out' r w = o out' r (subst (λ (t : List ℕ). Wrote now at t out' r) (sym e) (and-then v w))
+onward o e v out' r w = o out' r (same-text e (and-then v w))
 
 -- a piece that is refused
 pub onward-cut : {out whole now now' left xs : List ℕ} {start at : ℕ} (left' out' : List ℕ) → Onward out start whole now at left → left ≡ xs ++ left' → Wrote now at xs now' None → Wrote out start whole out' None
-onward-cut {now = now} {at = at} left' out' o e v = o out' None (subst (λ (t : List ℕ). Wrote now at t out' None) (sym e) (cut left' out' v))
+onward-cut left' out' o e v = o out' None (same-text e (cut left' out' v))
 
 -- nothing more, and the last piece
 pub onward-same : {out whole now left left' : List ℕ} {start at : ℕ} → Onward out start whole now at left → left ≡ left' → Onward out start whole now at left'
-onward-same {now = now} {at = at} o e out' r w = o out' r (subst (λ (t : List ℕ). Wrote now at t out' r) (sym e) w)
+onward-same o e out' r w = o out' r (same-text e w)
 
 -- one byte more: written where there is room
 pub byte-more : (text l l' : List ℕ) (at i : ℕ) → i < length text → l' ≡ set l (at + i) (getD text i 0) → sets l (at + i) (drop i text) ≡ sets l' (at + (i + 1)) (drop (i + 1) text)

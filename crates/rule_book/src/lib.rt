@@ -66,7 +66,7 @@ fn mark_at(marks: &[Mark], choice: u16) -> Mark
 }
 
 /// What stands in a list over that span, as far as the list goes.
-fn part<'a, T>(list: &'a [T], span: Span) -> &'a [T]
+pub fn part<'a, T>(list: &'a [T], span: Span) -> &'a [T]
     ensures { λ r. ⌜ now r ≡ run (span .start) (span .end) (now (list .entry)) ⌝ }
 {
     let end = (span.end as usize).min(list.len());
@@ -216,6 +216,27 @@ impl<'a> RuleBook<'a> {
             counts,
             entries,
         }
+    }
+
+    /// The rows of its rules.
+    pub fn rules(&self) -> &'a [RuleRow]
+        ensures { λ r. ⌜ now r ≡ now (now (self .entry) .rules) ⌝ }
+    {
+        self.rules
+    }
+
+    /// The rows of its counts.
+    pub fn counts(&self) -> &'a [CountRow]
+        ensures { λ r. ⌜ now r ≡ now (now (self .entry) .counts) ⌝ }
+    {
+        self.counts
+    }
+
+    /// The entries of its rules.
+    pub fn entries(&self) -> &'a [u16]
+        ensures { λ r. ⌜ now r ≡ now (now (self .entry) .entries) ⌝ }
+    {
+        self.entries
     }
 
     /// The reading of a rule as far as the last item of this side.

@@ -11,7 +11,7 @@ use Rattle.scan.specs.Causes.{scan-number}
 use Rattle.rule_file.specs.declared.fault.LineCause.{LineCause}
 use Rattle.rule_file.specs.declared.fault.LineCause.the-variants.{Form, Choice, Repeated}
 use Rattle.rule_file.specs.declared.fault.FileCause.{FileCause}
-use Rattle.rule_file.specs.declared.fault.FileCause.the-variants.{Storage, Bytes, Limit, Rules}
+use Rattle.rule_file.specs.declared.fault.FileCause.the-variants.{Storage, Bytes, Limit, Rules, Writing}
 use Rattle.rule_file.specs.declared.fault.LineFault.{LineFault}
 use Rattle.rule_file.specs.declared.fault.LineFault.the-variants.{Scan, Line}
 use Rattle.rule_file.specs.declared.fault.Fault.{Fault}
@@ -28,6 +28,7 @@ file-number Storage = 9
 file-number Bytes = 10
 file-number Limit = 16
 file-number Rules = 17
+file-number Writing = 19
 
 abbrev pub place-in-line : LineFault → ℕ
 place-in-line (Scan f) = f .place

@@ -30,6 +30,8 @@ pub enum FileCause {
     Limit,
     /// There is a rule more than the header says, or too few at the end.
     Rules,
+    /// Rules written out have too many bytes for a file, or for the list lent.
+    Writing,
 }
 
 /// A fault of layer line, or a scan fault inside it.
@@ -103,6 +105,7 @@ impl FileCause {
             FileCause::Bytes => 10,
             FileCause::Limit => 16,
             FileCause::Rules => 17,
+            FileCause::Writing => 19,
         }
     }
 }

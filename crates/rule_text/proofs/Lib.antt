@@ -1,0 +1,4 @@
+pub mod Lines
+pub mod Bounds
+pub mod Spelling
+pub mod Room
