@@ -21,7 +21,7 @@ use Rattle.scan.specs.Words.{Word, line, header, stray, number, opening, closin
 use Rattle.scan.proofs.Grammar.{every-file-reads, files-read-once}
 use Rattle.rule_file.specs.declared.fault.Fault.{Fault}
 use Rattle.rule_file.specs.declared.fault.Fault.the-variants.{Line as InLine, File as InFile}
-use Rattle.rule_file.specs.declared.fault.FileCause.the-variants.{Storage, Bytes, Limit, Rules as RulesCause}
+use Rattle.rule_file.specs.declared.fault.FileCause.the-variants.{Storage, Bytes, Limit, Rules as RulesCause, Writing}
 use Rattle.rule_file.specs.declared.fault.FileFault.{FileFault}
 use Rattle.rule_file.specs.declared.fault.LineCause.the-variants.{Form, Choice as ChoiceCause, Repeated}
 use Rattle.rule_file.specs.declared.fault.LineFault.the-variants.{Scan, Line}
@@ -188,7 +188,8 @@ of-number n i =
     cond (eqb n 13) (InLine (Line Form i)) (
     cond (eqb n 14) (InLine (Line ChoiceCause i)) (
     cond (eqb n 15) (InLine (Line Repeated i)) (
-    cond (eqb n 16) (InFile Limit i) (InFile RulesCause i))))))))
+    cond (eqb n 16) (InFile Limit i) (
+    cond (eqb n 17) (InFile RulesCause i) (InFile Writing i)))))))))
 
 scan-of-number : (c : ScanCause) (i : ℕ) → of-number (scan-number c) i ≡ InLine (Scan (record { cause = c; place = i }))
 scan-of-number UnknownByte i = refl
@@ -203,6 +204,7 @@ known (InFile Storage i) = refl
 known (InFile Bytes i) = refl
 known (InFile Limit i) = refl
 known (InFile RulesCause i) = refl
+known (InFile Writing i) = refl
 
 same-least : (i c j d : ℕ) → (i < j) ⊎ ((i ≡ j) × (c ≤ d)) → (j < i) ⊎ ((j ≡ i) × (d ≤ c)) → (i ≡ j) × (c ≡ d)
 same-least i c j d (inl x) (inl y) = absurd (omega arith)

@@ -1,7 +1,5 @@
 //! The reading of a rule file into storage that the caller lends.
-ghost use mathlib.Core.Path.{_≡_};
-ghost use lib.ListN.{length};
-ghost use Rattle.rule_store.specs.Storing.{Read, Refuses};
+ghost use Rattle.rule_store.specs.Storing.{Read};
 
 mod fill;
 
@@ -25,8 +23,7 @@ pub fn read_file(
     counts: &mut [CountRow],
     entries: &mut [u16],
 ) -> Result<Extent, FileFault>
-    ensures read { λ r. ⌜ Read (now (bytes .entry)) (length (now (rules .entry))) (length (now (counts .entry))) (length (now (entries .entry))) r ⌝ }
-    ensures kept { λ r. ⌜ Refuses r (now (rules .exit) ≡ now (rules .entry)) ⌝ ∗ ⌜ Refuses r (now (counts .exit) ≡ now (counts .entry)) ⌝ ∗ ⌜ Refuses r (now (entries .exit) ≡ now (entries .entry)) ⌝ }
+    ensures { λ r. ⌜ Read (now (bytes .entry)) (now (rules .entry)) (now (counts .entry)) (now (entries .entry)) (now (rules .exit)) (now (counts .exit)) (now (entries .exit)) r ⌝ }
 {
     if rules.len() < MAX_RULES || counts.len() < MAX_COUNTS || entries.len() < MAX_ENTRIES {
         return Err(FileFault::from((Fault::File(FileCause::Storage, 0), 1)));
