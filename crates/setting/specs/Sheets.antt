@@ -4,7 +4,6 @@ use Prim.Native.Nat.{ℕ}
 use lib.ListN.{replicate}
 use Rattle.std.specs.declared.option.Option.{Option}
 use Rattle.std.specs.declared.result.Result.{Result}
-use Rattle.std.specs.declared.result.Result.the-variants.{Ok, Err}
 use Rattle.book.specs.declared.Mark.{Mark}
 use Rattle.book.specs.declared.Mark.the-variants.{Open}
 use Rattle.book.specs.declared.Reading.{Reading}
@@ -15,9 +14,9 @@ use Rattle.rules.specs.Rules.{Rule}
 use Rattle.rule_book.specs.Meaning.{Allowed}
 use Rattle.rule_book.specs.Readings.{rules-reading}
 use Rattle.rule_file.specs.declared.fault.FileFault.{FileFault}
-use Rattle.rule_file.specs.declared.file.Extent.{Extent}
 use Rattle.rule_file.specs.Faults.{told-file}
-use Rattle.rule_store.specs.Storing.{Read}
+use Rattle.rule_file.specs.Files.{Refused}
+use Rattle.rule_file.specs.Form.{File}
 use Rattle.solver.specs.declared.Verdict.{Verdict}
 use Rattle.solver.specs.Outcome.{Says, MarksAfter, Means}
 use Rattle.solver.specs.Tree.{Explores}
@@ -38,7 +37,7 @@ pub record SearchPrinted (n : ℕ) (allows : List Mark → Type 0) (reads : List
   pub verdicts : Verdicts n allows reads allowance verdict marks
   pub printed : Printed (verdict-text verdict marks) out out' r
 
--- What is printed of a file: its refusal, or the verdict on the book of its rules.
-pub data SheetPrinted (file : List ℕ) (allowance : ℕ) (out out' : List ℕ) (r : Result ℕ JobFault) : Type 0 where
-  refused : (f : FileFault) → Read file 2048 1024 16384 (Err f) → Printed (refusal-text (told-file f) (f .line)) out out' r → SheetPrinted file allowance out out' r
-  sought : (x : Extent) (rs : List Rule) → Read file 2048 1024 16384 (Ok x) → SearchPrinted (x .size .value) (Allowed (x .size .value) rs) (λ ms. rules-reading ms rs) allowance out out' r → SheetPrinted file allowance out out' r
+-- What is printed of bytes: where they are no file, their first fault; where they are one, the verdict on the book of its rules.
+pub data SheetPrinted (bs : List ℕ) (allowance : ℕ) (out out' : List ℕ) (r : Result ℕ JobFault) : Type 0 where
+  refused : (f : FileFault) → Refused bs f → Printed (refusal-text (told-file f) (f .line)) out out' r → SheetPrinted bs allowance out out' r
+  sought : (n : ℕ) (rs : List Rule) → File bs n rs → SearchPrinted n (Allowed n rs) (λ ms. rules-reading ms rs) allowance out out' r → SheetPrinted bs allowance out out' r
