@@ -5,3 +5,5 @@ mod limits;
 mod small;
 #[cfg(test)]
 mod storage;
+#[cfg(test)]
+mod written;
