@@ -5,11 +5,13 @@ use mathlib.Core.List.{List, [], _∷_, _++_}
 use mathlib.Core.Logic.{_⊎_, inl, inr}
 use Prim.Native.Nat.{ℕ, _<_, _≤_}
 use native.Mathlib.Omega.{arith}
-use lib.Dec.{eqb, ltb, leb}
+use lib.Dec.{eqb, ltb}
 use lib.ListN.{length}
 use borrow.Author.Tests.{ltb-false, ltb-true, le-ltb}
-use Rattle.std.specs.declared.result.Result.{Result}
 use Rattle.std.specs.declared.result.Result.the-variants.{Ok, Err}
+use mathlib.Core.HLevel.{isProp→PathP}
+use native.Mathlib.Bridge.{le-prop}
+use Rattle.book.specs.declared.size.SheetSize.{SheetSize}
 use Rattle.rules.specs.Rules.{Rule}
 use Rattle.scan.specs.declared.ScanCause.{ScanCause}
 use Rattle.scan.specs.declared.ScanCause.the-variants.{UnknownByte, NumberTooLarge}
@@ -31,20 +33,18 @@ use Rattle.rule_file.specs.declared.line.Part.{Part}
 use Rattle.rule_file.specs.declared.line.Part.the-variants as part
 use Rattle.rule_file.specs.declared.line.State.{State}
 use Rattle.rule_file.specs.declared.line.State.the-variants as state
-use Rattle.rule_file.specs.Causes.{CauseAt, FirstFault, Sum, nothing-yet, adding, adding-all, sum}
+use Rattle.rule_file.specs.Causes.{CauseAt, FirstFault, Sum, nothing-yet, adding-all, sum}
 use Rattle.rule_file.specs.Faults.{told, place-of, told-file, located}
-use Rattle.rule_file.specs.Files.{Accepted, Refused, Checked, Same-answer, Answered-once, Passed-as-form}
-use Rattle.rule_file.specs.Form.{written-as, all-written, form, words-only, SpellsFile, File}
-use Rattle.rule_file.specs.Machine.{Mach, start-mach, scanned, Takes, Passes, ends, goes-on, Refuses, Passed}
-use Rattle.rule_file.proofs.Held.{Held, held-start, Right, takes-right, number-of, only-breaks, sum-on, written-on}
+use Rattle.rule_file.specs.Files.{Accepted, Refused, Answered-once, Passed-as-form}
+use Rattle.rule_file.specs.Form.{written-as, all-written, form, words-only, File}
+use Rattle.rule_file.specs.Machine.{Mach, start-mach, scanned, Passes, ends, goes-on, Refuses, Passed}
+use Rattle.rule_file.proofs.Held.{Held, held-start, takes-right, number-of, only-breaks, sum-on, written-on}
 use Rattle.rule_file.proofs.Laid.{file-laid}
-use Rattle.rule_file.proofs.Limits.{Small-word, Sound, form-keep, form-fit, Kept}
+use Rattle.rule_file.proofs.Limits.{Small-word, Sound, form-keep, form-fit}
 use Rattle.rule_file.proofs.Spelling.{spelled-words, spelled-once}
 use Rattle.rule_file.proofs.Telling.{FaultIn, FirstIn, cause-in, cause-at, refused-first}
 use Rattle.rule_file.proofs.Walks.{Step, file-end, Walk, here, on, walk-on, form-walk, walk-form, walk-once, token-of}
-
-clash : {A : Type 0} → _≡_ {A = ℕ} 0 1 → A
-clash e = absurd (omega arith)
+use Rattle.rule_file.proofs.Clash.{clash}
 
 small-scanned : (w : Word) (t : Token) → scanned w ≡ Ok t → Small-word w
 small-scanned line t e = tt
@@ -229,10 +229,16 @@ same-fault bs f g x y = at (ltb 65535 (length bs)) refl
         let k = first-once bs _ _ _ _ (x .first h) (y .first h) in
         sym (known (f .fault)) ∙ ap (of-number (told-file f .number)) (k .0) ∙ ap (λ (n : ℕ). of-number n (told-file g .place)) (k .1) ∙ known (g .fault)
 
+-- a size is known by its value
+same-size : (x y : SheetSize) → x .value ≡ y .value → x ≡ y
+same-size x y e = λ i. record { value = e i; small = isProp→PathP (λ j. e j ≤ 4096) (λ j. le-prop) (x .small) (y .small) i }
+
 pub answered-once : Answered-once
 answered-once bs (Ok x) (Ok y) a b =
     let s = spelled-once bs _ _ _ _ _ _ (a .file .spelled) (b .file .spelled) in
-    (s .0, a .many ∙ s .1 ∙ sym (b .many))
-answered-once bs (Ok x) (Err f) a b = b .no-file (x .size .value) (a .the-rules) (a .file)
-answered-once bs (Err f) (Ok y) a b = a .no-file (y .size .value) (b .the-rules) (b .file)
-answered-once bs (Err f) (Err g) a b = a .line ∙ ap (located bs) (same-fault bs f g a b) ∙ sym (b .line)
+    let size = same-size (x .size) (y .size) (s .0) in
+    let rules : x .rules ≡ y .rules = a .many ∙ s .1 ∙ sym (b .many) in
+    λ i. Ok (record { size = size i; rules = rules i })
+answered-once bs (Ok x) (Err f) a b = absurd (b .no-file (x .size .value) (a .the-rules) (a .file))
+answered-once bs (Err f) (Ok y) a b = absurd (a .no-file (y .size .value) (b .the-rules) (b .file))
+answered-once bs (Err f) (Err g) a b = λ i. Err ((a .line ∙ ap (located bs) (same-fault bs f g a b) ∙ sym (b .line)) i)

@@ -1,36 +1,22 @@
 -- For those who read a file: what its machine does is settled by its words.
 use mathlib.Core.Path.{_≡_, refl, sym, _∙_, ap, subst}
-use mathlib.Core.Bool.{Bool, true, false}
+use mathlib.Core.Bool.{false}
 use mathlib.Core.List.{List, [], _∷_}
 use mathlib.Core.Logic.{_⊎_, inl, inr}
 use Prim.Native.Nat.{ℕ}
-use native.Mathlib.Omega.{arith}
-use Rattle.std.specs.declared.option.Option.{Option}
 use Rattle.std.specs.declared.option.Option.the-variants.{Some, None}
-use Rattle.std.specs.declared.result.Result.the-variants.{Ok, Err}
-use Rattle.scan.specs.declared.Token.{Token}
 use Rattle.scan.specs.Words.{Word, line, Placed}
 use Rattle.rule_file.specs.declared.fault.Fault.{Fault}
 use Rattle.rule_file.specs.declared.line.Part.{Part}
 use Rattle.rule_file.specs.declared.line.Part.the-variants as part
-use Rattle.rule_file.specs.declared.line.State.{State}
 use Rattle.rule_file.specs.Form.{words-only}
-use Rattle.rule_file.specs.Machine.{Mach, Takes, Passes, ends, goes-on, by-form, by-scan, word-fault, Stops, at-word, at-surplus, Refuses, stops, later}
-use Rattle.rule_file.specs.Reader.{Taken, plays, is-end, size-after, seen-after, counted}
-
-clash : {A : Type 0} → _≡_ {A = ℕ} 0 1 → A
-clash e = absurd (omega arith)
+use Rattle.rule_file.specs.Machine.{Mach, Takes, Passes, ends, goes-on, by-scan, word-fault, Stops, at-word, at-surplus, Refuses, stops, later}
+use Rattle.rule_file.specs.Reader.{plays, is-end, size-after, seen-after, counted}
+use Rattle.rule_file.proofs.Clash.{clash}
+use Rattle.rule_file.proofs.Walks.{part-of, state-of}
 
 abbrev Same : Part → Mach → Part → Mach → Type 0
 Same p m q n = (p ≡ q) × (m ≡ n)
-
-abbrev part-of : Taken → Part
-part-of None = part.End
-part-of (Some z) = z .0
-
-abbrev state-of : State → Taken → State
-state-of s None = s
-state-of s (Some z) = z .1
 
 -- a word is taken in one way
 pub takes-once : (m : Mach) (w : Word) (p q : Part) (x y : Mach) → Takes m w p x → Takes m w q y → Same p x q y
@@ -38,7 +24,7 @@ takes-once m w p q x y a b =
     let t : a .token ≡ b .token = let e = a .scans in let f = b .scans in cc in
     let e : Some (p, x .state) ≡ Some (q, y .state) = sym (a .played) ∙ ap (plays (m .state)) t ∙ b .played in
     let pq : p ≡ q = ap part-of e in
-    let st : x .state ≡ y .state = ap (state-of (x .state)) e in
+    let st : x .state ≡ y .state = ap state-of e in
     let sz : x .size ≡ y .size = a .size ∙ ap (size-after (m .size)) pq ∙ sym (b .size) in
     let se : x .seen ≡ y .seen = a .seen ∙ ap (seen-after (m .seen)) pq ∙ sym (b .seen) in
     let ta : x .tally ≡ y .tally = a .tally ∙ ap (counted (m .tally)) pq ∙ sym (b .tally) in

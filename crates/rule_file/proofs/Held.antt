@@ -3,12 +3,12 @@ use mathlib.Core.Path.{_≡_, refl, sym, _∙_, ap, subst}
 use mathlib.Core.Bool.{Bool, true, false, cond}
 use mathlib.Core.List.{List, [], _∷_, _++_}
 use mathlib.Core.Logic.{_⊎_, inl, inr, _≢_}
-use Prim.Native.Nat.{ℕ, zero, suc, _+_, _<_, _≤_}
+use Prim.Native.Nat.{ℕ, zero, suc, _<_, _≤_}
 use native.Mathlib.Omega.{arith}
 use lib.Dec.{eqb, ltb, leb}
 use lib.ListN.{length, getD, set, replicate, length-set, length-replicate}
 use lib.Seq.{getD-set-same, getD-set-other}
-use borrow.Author.Tests.{ltb-true, ltb-false, leb-true, leb-false, eqb-true, eqb-false, lt-ltb, le-leb, eq-eqb}
+use borrow.Author.Tests.{ltb-true, ltb-false, leb-true, eqb-true, eqb-false, lt-ltb, le-leb, eq-eqb}
 use Rattle.std.specs.declared.option.Option.{Option}
 use Rattle.std.specs.declared.option.Option.the-variants.{Some, None}
 use Rattle.std.specs.declared.result.Result.{Result}
@@ -23,24 +23,21 @@ use Rattle.rule_file.specs.declared.fault.Fault.{Fault}
 use Rattle.rule_file.specs.declared.fault.Fault.the-variants.{Line as InLine, File}
 use Rattle.rule_file.specs.declared.fault.FileCause.{FileCause}
 use Rattle.rule_file.specs.declared.fault.FileCause.the-variants.{Limit, Rules as RulesCause}
-use Rattle.rule_file.specs.declared.fault.LineCause.{LineCause}
-use Rattle.rule_file.specs.declared.fault.LineCause.the-variants.{Form, Choice as ChoiceCause, Repeated}
+use Rattle.rule_file.specs.declared.fault.LineCause.the-variants.{Choice as ChoiceCause, Repeated}
 use Rattle.rule_file.specs.declared.fault.LineFault.the-variants.{Scan, Line}
 use Rattle.rule_file.specs.declared.file.Tally.{Tally}
 use Rattle.rule_file.specs.declared.line.Part.{Part}
 use Rattle.rule_file.specs.declared.line.Part.the-variants as part
 use Rattle.rule_file.specs.declared.line.State.{State}
 use Rattle.rule_file.specs.declared.line.State.the-variants as state
-use Rattle.rule_file.specs.Causes.{Begins, Stands, Sum, nothing-yet, adding, adding-all, sum, Breaks, no-item, no-member, repeated, large-size, many-rules, many-counts, many-items, many-members, surplus-rule, missing-rule, Wrong, unknown-byte, large-number, no-form, broken}
+use Rattle.rule_file.specs.Causes.{Stands, Sum, nothing-yet, adding, adding-all, sum, Breaks, no-item, no-member, repeated, large-size, many-rules, many-counts, many-items, many-members, surplus-rule, missing-rule, Wrong, unknown-byte, large-number, no-form, broken}
 use Rattle.rule_file.specs.Faults.{told, place-of}
 use Rattle.rule_file.specs.Form.{written-as, all-written, Occurs}
 use Rattle.rule_file.specs.Machine.{Mach, start-mach, scanned, Takes, by-limits, by-form, by-scan, word-fault}
 use Rattle.rule_file.specs.Reader.{Taken, plays, no-choice, line-fault, size-after, none-seen, seen-after, file-fault, counted}
 use Rattle.rule_file.proofs.Walks.{Step, Walk, here, walk-on, last-step, walk-begins, begins-walk, walk-once, step-plays, step-once, plays-step, token-of}
 use Rattle.rule_file.proofs.Callers.{no-fault}
-
-clash : {A : Type 0} → _≡_ {A = ℕ} 0 1 → A
-clash e = absurd (omega arith)
+use Rattle.rule_file.proofs.Clash.{clash}
 
 -- the tally of a sum
 abbrev tally-of : Sum → Tally

@@ -9,9 +9,7 @@ use Rattle.scan.specs.declared.ByteKind.{ByteKind}
 use Rattle.scan.specs.declared.ByteKind.the-variants.{Digit, Space, Feed, Open, Close, Comma, Header, Comment, Other}
 use Rattle.scan.specs.Bytes.{digit, kind, Mode, line-start, first-byte, in-line, in-comment, in-number, gives, goes, words, file-words}
 use Rattle.scan.specs.Words.{Word, line, header, stray, number, opening, closing, comma, feed, unknown, end, cut, Placed}
-
-clash : {A : Type 0} → _≡_ {A = ℕ} 0 1 → A
-clash e = absurd (omega arith)
+use Rattle.rule_file.proofs.Clash.{clash}
 
 abbrev pub is-line : Word → Bool
 is-line line = true

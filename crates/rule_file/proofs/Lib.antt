@@ -1,5 +1,6 @@
 pub mod Answering
 pub mod Callers
+pub mod Clash
 pub mod Ends
 pub mod Feeds
 pub mod Held

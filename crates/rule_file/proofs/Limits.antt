@@ -1,22 +1,17 @@
 -- The parts of a file break nothing exactly if its rules keep the limits.
 use mathlib.Core.Path.{_≡_, refl, sym, _∙_, ap, subst}
-use mathlib.Core.Bool.{Bool, true, false, cond}
-use mathlib.Core.List.{List, [], _∷_, _++_}
-use mathlib.Core.Logic.{_⊎_, inl, inr}
-use Prim.Native.Nat.{ℕ, zero, suc, _+_, _<_, _≤_}
+use mathlib.Core.List.{List, [], _∷_}
+use mathlib.Core.Logic.{inl, inr}
+use Prim.Native.Nat.{ℕ, _+_, _<_, _≤_}
 use native.Mathlib.Omega.{arith}
-use native.Mathlib.Numerals.{add-one}
 use lib.ListN.{length}
 use Rattle.rules.specs.Rules.{Item, choice, count, Rule}
 use Rattle.scan.specs.Words.{Word, line, header, stray, number, opening, closing, comma, feed, unknown, end, cut}
 use Rattle.rule_file.specs.declared.line.Part.{Part}
 use Rattle.rule_file.specs.declared.line.Part.the-variants as part
 use Rattle.rule_file.specs.Causes.{Sum, nothing-yet, with-size, with-declared, one-rule, one-count, one-item, one-member, adding, adding-all, sum, Breaks, no-item, no-member, repeated, large-size, many-rules, many-counts, many-items, many-members, surplus-rule, missing-rule}
-use Rattle.rule_file.specs.Form.{written-as, member-parts, item-parts, items-parts, rule-parts, rules-parts, form, IsChoice, AllChoices, Occurs, Distinct, GoodItem, GoodItems, GoodRules, item-counts, item-entries, all-counts, all-entries, Within}
+use Rattle.rule_file.specs.Form.{written-as, member-parts, items-parts, rules-parts, form, IsChoice, AllChoices, Occurs, Distinct, GoodItems, GoodRules, item-counts, item-entries, all-counts, all-entries, Within}
 use Rattle.rule_file.proofs.Held.{harmless}
-
-clash : {A : Type 0} → _≡_ {A = ℕ} 0 1 → A
-clash e = absurd (omega arith)
 
 -- a number that the scanner takes
 abbrev pub Small-word : Word → Type 0

@@ -2,13 +2,10 @@
 use mathlib.Core.Path.{_≡_, refl, sym, _∙_, ap, subst}
 use mathlib.Core.Bool.{Bool, true, false, cond}
 use mathlib.Core.List.{List, [], _∷_}
-use Prim.Native.Nat.{ℕ, _<_}
-use native.Mathlib.Omega.{arith}
+use Prim.Native.Nat.{ℕ}
 use lib.Dec.{leb}
 use borrow.Author.Tests.{lt-ltb, le-ltb}
-use Rattle.std.specs.declared.option.Option.{Option}
 use Rattle.std.specs.declared.option.Option.the-variants.{Some, None}
-use Rattle.std.specs.declared.result.Result.{Result}
 use Rattle.std.specs.declared.result.Result.the-variants.{Ok, Err}
 use Rattle.scan.specs.declared.ScanCause.{ScanCause}
 use Rattle.scan.specs.declared.ScanCause.the-variants.{UnknownByte, NumberTooLarge}
@@ -16,12 +13,11 @@ use Rattle.scan.specs.declared.Token.{Token}
 use Rattle.scan.specs.declared.Token.the-variants as tok
 use Rattle.scan.specs.declared.scanner.Scanner.{Scanner}
 use Rattle.scan.specs.Scans.{ahead, word-of, final, Small, Refused}
-use Rattle.scan.specs.Words.{Word, line, number, Placed}
+use Rattle.scan.specs.Words.{Word, line, Placed}
 use Rattle.rule_file.specs.declared.fault.Fault.{Fault}
 use Rattle.rule_file.specs.declared.fault.Fault.the-variants.{Line as InLine, File}
 use Rattle.rule_file.specs.declared.fault.FileCause.{FileCause}
 use Rattle.rule_file.specs.declared.fault.FileCause.the-variants.{Rules as RulesCause}
-use Rattle.rule_file.specs.declared.fault.LineCause.{LineCause}
 use Rattle.rule_file.specs.declared.fault.LineFault.{LineFault}
 use Rattle.rule_file.specs.declared.fault.LineFault.the-variants.{Scan, Line}
 use Rattle.rule_file.specs.declared.file.FileReader.{FileReader}
@@ -33,9 +29,10 @@ use Rattle.rule_file.specs.declared.line.State.{State}
 use Rattle.rule_file.specs.declared.line.State.the-variants as state
 use Rattle.rule_file.specs.declared.line.Half.the-variants.{Body}
 use Rattle.rule_file.specs.Form.{written-as}
-use Rattle.rule_file.specs.Reader.{Taken, plays, by-taken, line-fault, is-end, file-fault, counted, Line-reads}
-use Rattle.rule_file.specs.Machine.{Mach, mach, scanned, Takes, by-form, by-scan, word-fault, surplus-fault, in-rule, Stops, at-word, at-surplus, Moved-on}
+use Rattle.rule_file.specs.Reader.{Taken, plays, by-taken, file-fault, counted, Line-reads}
+use Rattle.rule_file.specs.Machine.{Mach, scanned, by-form, by-scan, word-fault, surplus-fault, in-rule, Stops, at-word, at-surplus, Moved-on}
 use Rattle.rule_file.proofs.Walks.{plays-step, final-end, Step, rule-line}
+use Rattle.rule_file.proofs.Clash.{clash}
 
 pub scan-ok : (t : Token) → Small t → scanned (word-of t) ≡ Ok t
 scan-ok tok.Line h = refl
@@ -52,9 +49,6 @@ scan-ok tok.Cut h = refl
 scan-err : (c : ScanCause) (w : Word) → Refused c w → scanned w ≡ Err c
 scan-err UnknownByte w h = ap scanned h
 scan-err NumberTooLarge w h = ap scanned (h .2) ∙ rw (lt-ltb 65535 (h .0) (h .1))
-
-clash : {A : Type 0} → _≡_ {A = ℕ} 0 1 → A
-clash e = absurd (omega arith)
 
 -- the machine of a line reader with a tally
 abbrev with-tally : LineReader → Tally → Mach

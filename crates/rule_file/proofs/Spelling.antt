@@ -1,10 +1,9 @@
 -- Bytes spell at most one file.
-use mathlib.Core.Path.{_≡_, refl, sym, _∙_, ap, subst}
+use mathlib.Core.Path.{_≡_, sym, _∙_, ap, subst}
 use mathlib.Core.List.{List, [], _∷_, _++_, append-assoc, append-nil}
 use Prim.Native.Nat.{ℕ}
 use Rattle.rules.specs.Rules.{Item, choice, count, Rule}
 use Rattle.scan.specs.Bytes.{file-words}
-use Rattle.scan.specs.Words.{Word, Placed}
 use Rattle.scan.proofs.Grammar.{every-file-reads, files-read-once}
 use Rattle.rule_file.specs.declared.line.Part.{Part}
 use Rattle.rule_file.specs.declared.line.Part.the-variants as part

@@ -2,7 +2,7 @@
 use mathlib.Core.Path.{_≡_, refl, sym, _∙_, ap, subst}
 use mathlib.Core.Bool.{Bool, true, false, cond}
 use mathlib.Core.List.{List, [], _∷_, _++_, append-assoc, append-nil}
-use mathlib.Core.Logic.{_⊎_, inl, inr, _≢_}
+use mathlib.Core.Logic.{_⊎_, inl, inr}
 use Prim.Native.Nat.{ℕ, _+_, _<_, _≤_}
 use native.Mathlib.Omega.{arith}
 use lib.Dec.{eqb, ltb, leb}
@@ -14,7 +14,7 @@ use Rattle.scan.specs.declared.ScanCause.the-variants.{NumberTooLarge}
 use Rattle.scan.specs.declared.Token.the-variants as tok
 use Rattle.scan.specs.Words.{Word, line, header, stray, number, opening, closing, comma, feed, unknown, end, cut, Placed}
 use Rattle.rule_file.specs.declared.fault.Fault.{Fault}
-use Rattle.rule_file.specs.declared.fault.Fault.the-variants.{Line as InLine, File}
+use Rattle.rule_file.specs.declared.fault.Fault.the-variants.{File}
 use Rattle.rule_file.specs.declared.fault.FileCause.the-variants.{Rules as RulesCause}
 use Rattle.rule_file.specs.declared.file.Tally.{Tally}
 use Rattle.rule_file.specs.declared.line.Half.the-variants.{Body}
@@ -22,17 +22,15 @@ use Rattle.rule_file.specs.declared.line.Part.{Part}
 use Rattle.rule_file.specs.declared.line.Part.the-variants as part
 use Rattle.rule_file.specs.declared.line.State.{State}
 use Rattle.rule_file.specs.declared.line.State.the-variants as state
-use Rattle.rule_file.specs.Causes.{CauseAt, Wrong, unknown-byte, large-number, no-form, broken, sum, nothing-yet, adding, Sum}
+use Rattle.rule_file.specs.Causes.{CauseAt, Wrong, unknown-byte, large-number, no-form, broken, sum, nothing-yet, Sum}
 use Rattle.rule_file.specs.Faults.{place-of}
 use Rattle.rule_file.specs.Form.{written-as, all-written, words-only}
-use Rattle.rule_file.specs.Machine.{Mach, scanned, Takes, by-limits, by-form, by-scan, word-fault, or-surplus, next-fault, in-rule, Stops, at-word, at-surplus, Refuses, stops, later}
-use Rattle.rule_file.specs.Reader.{plays, counted, is-end}
+use Rattle.rule_file.specs.Machine.{Mach, by-limits, by-form, by-scan, word-fault, or-surplus, next-fault, in-rule, Stops, at-word, at-surplus, Refuses, stops, later}
+use Rattle.rule_file.specs.Reader.{plays, counted}
 use Rattle.rule_file.proofs.Held.{Held, Keeps, Exact, number-of, word-exact, takes-right, Right, written-on, low-breaks, sum-on}
 use Rattle.rule_file.proofs.Laid.{is-line, is-feed, Laid}
 use Rattle.rule_file.proofs.Walks.{Step, Walk, walk-on, header-line, header-p, size, rules, header-end, rule-line, file-end, choice, count-open, lower, upper, member, count-close, to-head, rule-end}
-
-clash : {A : Type 0} → _≡_ {A = ℕ} 0 1 → A
-clash e = absurd (omega arith)
+use Rattle.rule_file.proofs.Clash.{clash}
 
 -- a cause at a place, word by word, after those before
 abbrev pub FaultIn : List Word → List Placed → ℕ → ℕ → Type 0

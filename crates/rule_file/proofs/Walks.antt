@@ -3,7 +3,6 @@ use mathlib.Core.Path.{_≡_, refl, sym, _∙_, ap, subst}
 use mathlib.Core.Bool.{Bool, true, false}
 use mathlib.Core.List.{List, [], _∷_, _++_}
 use Prim.Native.Nat.{ℕ}
-use native.Mathlib.Omega.{arith}
 use Rattle.std.specs.declared.option.Option.the-variants.{Some, None}
 use Rattle.rules.specs.Rules.{Item, choice as choice-item, count as count-item, Rule}
 use Rattle.scan.specs.declared.Token.{Token}
@@ -19,6 +18,7 @@ use Rattle.rule_file.specs.declared.line.State.the-variants as state
 use Rattle.rule_file.specs.Causes.{Begins}
 use Rattle.rule_file.specs.Form.{written-as, all-written, member-parts, item-parts, items-parts, rules-parts, form}
 use Rattle.rule_file.specs.Reader.{Taken, row, plays, is-end}
+use Rattle.rule_file.proofs.Clash.{clash}
 
 pub data Step : State → Part → State → Type 0 where
   header-line : Step state.Start part.HeaderLine state.Header
@@ -157,11 +157,12 @@ step-plays (count-close h) = refl
 step-plays to-head = refl
 step-plays rule-end = refl
 
-abbrev part-of : Taken → Part
+-- the part and the state of what is taken
+abbrev pub part-of : Taken → Part
 part-of None = part.End
 part-of (Some x) = x .0
 
-abbrev state-of : Taken → State
+abbrev pub state-of : Taken → State
 state-of None = state.Over
 state-of (Some x) = x .1
 
@@ -301,9 +302,6 @@ begins-walk ps b =
     let w : Walk state.Start (ps ++ b .3) state.Over = subst (λ (z : List Part). Walk state.Start z state.Over) (b .4) (form-walk (b .0) (b .1) (b .2)) in
     let r = split ps w in
     (r .0, r .1)
-
-clash : {A : Type 0} → _≡_ {A = ℕ} 0 1 → A
-clash e = absurd (omega arith)
 
 -- the words settle the parts and the state
 pub walk-once : {s t u : State} {ps qs : List Part} → Walk s ps t → Walk s qs u → all-written ps ≡ all-written qs → (ps ≡ qs) × (t ≡ u)

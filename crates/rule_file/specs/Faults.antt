@@ -6,7 +6,6 @@ use lib.Dec.{eqb}
 use lib.ListN.{take}
 use Rattle.refusal.specs.declared.Layer.the-variants.{File as FileLayer, Scan as ScanLayer, Line as LineLayer}
 use Rattle.refusal.specs.declared.Refusal.{Refusal}
-use Rattle.scan.specs.declared.ScanFault.{ScanFault}
 use Rattle.scan.specs.Causes.{scan-number}
 use Rattle.rule_file.specs.declared.fault.LineCause.{LineCause}
 use Rattle.rule_file.specs.declared.fault.LineCause.the-variants.{Form, Choice, Repeated}

@@ -53,14 +53,8 @@ Spelled-once =
     (bs : List ℕ) (n m n′ m′ : ℕ) (rs rs′ : List Rule) → SpellsFile bs n m rs → SpellsFile bs n′ m′ rs′ → (n ≡ n′) × (m ≡ m′) × (rs ≡ rs′)
 
 -- Theorem: at most one answer fits bytes, so that of the check is the only one.
-abbrev pub Same-answer : Result Extent FileFault → Result Extent FileFault → Type 0
-Same-answer (Ok x) (Ok y) = (x .size .value ≡ y .size .value) × (x .rules ≡ y .rules)
-Same-answer (Ok x) (Err f) = ⊥
-Same-answer (Err f) (Ok x) = ⊥
-Same-answer (Err f) (Err g) = f ≡ g
-
 abbrev pub Answered-once : Type 0
-Answered-once = (bs : List ℕ) (r r′ : Result Extent FileFault) → Checked bs r → Checked bs r′ → Same-answer r r′
+Answered-once = (bs : List ℕ) (r r′ : Result Extent FileFault) → Checked bs r → Checked bs r′ → r ≡ r′
 
 -- Theorem: the machine passes the words of a file as the parts of its form.
 abbrev pub Passed-as-form : Type 0

@@ -1,13 +1,10 @@
 //! The file layer: the limits, the number of rules, and the reading of a whole file.
 ghost use mathlib.Core.Path.{_≡_};
-ghost use Prim.Native.Nat.{_+_, _≤_};
-ghost use lib.ListN.{length};
-ghost use Rattle.std.specs.Results.{Cases};
-ghost use Rattle.rule_file.specs.Faults.{line-of, located};
-ghost use Rattle.rule_file.specs.Reader.{Counted, Nearer, Tallied};
-ghost use Rattle.rule_file.specs.Files.{Started, Checked, Passed-as-form, Spelled-once, Answered-once};
-ghost use Rattle.rule_file.specs.Machine.{mach, surplus-fault, next-fault, Moves, Read-through, Passed};
 ghost use Rattle.scan.specs.Scans.{ahead};
+ghost use Rattle.rule_file.specs.Faults.{line-of, located};
+ghost use Rattle.rule_file.specs.Files.{Started, Checked, Spelled-once, Answered-once, Passed-as-form};
+ghost use Rattle.rule_file.specs.Machine.{mach, surplus-fault, next-fault, Moves, Read-through, Passed};
+ghost use Rattle.rule_file.specs.Reader.{Counted, Nearer, Tallied};
 use super::fault::Fault;
 use super::fault::FaultFromLine;
 use super::fault::FileCause;
@@ -196,10 +193,10 @@ fn refused(fault: Fault, bytes: &[u8]) -> FileFault
 /// Checks a file and writes nothing: what it takes in storage, or the fault that is told of it.
 pub fn check_file(bytes: &[u8]) -> Result<Extent, FileFault>
     ensures checked { λ r. ⌜ Checked (now (bytes .entry)) r ⌝ }
-    ensures passes { λ r. ⌜ Passed (now (bytes .entry)) r ⌝ }
-    ensures parts { λ _. ⌜ Passed-as-form ⌝ }
     ensures spelled { λ _. ⌜ Spelled-once ⌝ }
     ensures answered { λ _. ⌜ Answered-once ⌝ }
+    ensures passes { λ r. ⌜ Passed (now (bytes .entry)) r ⌝ }
+    ensures parts { λ _. ⌜ Passed-as-form ⌝ }
 {
     if bytes.len() > MAX_BYTES {
         return Err(refused(Fault::File(FileCause::Bytes, MAX_BYTES), bytes));
