@@ -12,7 +12,7 @@ ghost use Rattle.rule_book.specs.Meaning.{rules-of, size-of};
 ghost use Rattle.rule_file.specs.Form.{SpellsFile};
 ghost use Rattle.rule_text.specs.Writing.{numerals, item-tokens, items-tokens, rule-tokens, line-text, header-tokens, writing, Written};
 ghost use Rattle.rule_text.specs.Padding.{token-text, padded, all-padded, If-some};
-ghost use Rattle.rule_text.specs.Back.{Small, SmallItem, SmallRule, Writings-read-back, Writings-are-files};
+ghost use Rattle.rule_text.specs.Back.{Small, SmallItem, SmallRule, Writings-read-back, Writings-are-files, Books-return};
 use book::Book;
 use output::has_room;
 use output::put;
@@ -204,6 +204,7 @@ pub fn write_rules(book: &RuleBook, out: &mut [u8]) -> Result<usize, FileFault>
     ensures spelled { λ r. ⌜ made r (λ _. SpellsFile (writing (size-of (now (book .entry))) (rules-of (now (book .entry)))) (size-of (now (book .entry))) (length (rules-of (now (book .entry)))) (rules-of (now (book .entry)))) ⌝ }
     ensures back { λ _. ⌜ Writings-read-back ⌝ }
     ensures files { λ _. ⌜ Writings-are-files ⌝ }
+    ensures returned { λ _. ⌜ Books-return ⌝ }
 {
     let mut nothing: [u8; 0] = [];
     if !has_room(put_book(&mut nothing, book), out.len().min(MAX_BYTES)) {

@@ -1,5 +1,6 @@
 use mathlib.Core.Path.{refl}
 use native.Mathlib.Omega.{arith}
+use Rattle.rule_text.proofs.Returning.{books-return}
 use Rattle.rule_text.proofs.Room.{written, refused, made-some}
 use Rattle.rule_text.proofs.Spelling.{reads-back, are-files}
 use Rattle.rule_text.proofs.write_rules.Needs as need
@@ -11,6 +12,7 @@ returns-then-not-has-room c =
       spelled = tt;
       back = reads-back;
       files = are-files;
+      returned = books-return;
     }
 
 pub returns : need.returns
@@ -20,4 +22,5 @@ returns c =
       spelled = made-some _ (c .put-book-2 .result) _ (c .ok-or .result) (c .ok-or .ensures .value) (c .put-book-2 .ensures .spelled);
       back = reads-back;
       files = are-files;
+      returned = books-return;
     }
