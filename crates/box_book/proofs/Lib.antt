@@ -1,1 +1,3 @@
 pub mod Checks
+pub mod Finds
+pub mod Laws

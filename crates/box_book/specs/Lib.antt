@@ -1,1 +1,4 @@
 pub mod Causes
+pub mod Places
+pub mod Meaning
+pub mod Readings
