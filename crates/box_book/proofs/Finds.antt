@@ -1,11 +1,11 @@
 -- What a test of the places of a list says.
-use mathlib.Core.Path.{_≡_, refl}
+use mathlib.Core.Path.{_≡_, refl, sym}
 use mathlib.Core.Bool.{Bool, true, false, cond, _||_}
 use mathlib.Core.Logic.{_⊎_, inl, inr}
 use Prim.Native.Nat.{ℕ, zero, suc, _<_, _≤_}
 use native.Mathlib.Omega.{arith}
 use Rattle.std.specs.Orderings.{Decides}
-use Rattle.std.proofs.shelf.Tests.{cases-order, both-ways, false≢true}
+use Rattle.std.proofs.shelf.Tests.{cases-lt, cases-order, both-ways}
 use Rattle.std.proofs.shelf.Ways.{decides-below-or}
 use Rattle.box_book.specs.Places.{some-below, first-below}
 
@@ -57,3 +57,19 @@ one-first p n r s x y = by (cases-order r s)
 -- a place that is the first is what `first-below` gives
 pub first-from : (p : ℕ → Bool) (n r : ℕ) → IsFirst p n r → r ≡ first-below p n
 first-from p n r x = one-first p n r (first-below p n) x (first-is p n)
+
+pub some-found : (p : ℕ → Bool) (n k : ℕ) → k < n → p k ≡ true → true ≡ some-below p n
+some-found p n k h e = sym (some-from p n k h e)
+
+pub some-none : (p : ℕ → Bool) (n : ℕ) → ((k : ℕ) → k < n → p k ≡ false) → false ≡ some-below p n
+some-none p n f = sym (none-false p n f)
+
+pub first-found : (p : ℕ → Bool) (n k : ℕ) → k < n → ((j : ℕ) → j < k → p j ≡ false) → p k ≡ true → k ≡ first-below p n
+first-found p n k h f e = first-from p n k (record { within = omega arith; before = f; here = λ x. e })
+
+pub first-none : (p : ℕ → Bool) (n : ℕ) → ((j : ℕ) → j < n → p j ≡ false) → n ≡ first-below p n
+first-none p n f = first-from p n n (record { within = omega arith; before = f; here = λ x. absurd (omega arith) })
+
+-- what fails before s, and from s up to e, fails before e
+pub upto : (p : ℕ → Bool) (s e : ℕ) → ((k : ℕ) → k < s → p k ≡ false) → ((k : ℕ) → s ≤ k → k < e → p k ≡ false) → (k : ℕ) → k < e → p k ≡ false
+upto p s e f g k h = elim (cases-lt k s) [ inl l ↦ f k l | inr l ↦ g k l h ]

@@ -2,3 +2,4 @@ pub mod Causes
 pub mod Places
 pub mod Meaning
 pub mod Readings
+pub mod Runs
