@@ -38,13 +38,8 @@ abbrev pub NameFits : NameBox → Type 0
 NameFits b = (1 ≤ b .name) × (b .name ≤ 512)
 
 -- edges are 0 to 20,000, left below right, top below bottom
-pub record EdgesFit (b : NameBox) : Type 0 where
-  pub left-small : b .left ≤ 20000
-  pub top-small : b .top ≤ 20000
-  pub right-small : b .right ≤ 20000
-  pub bottom-small : b .bottom ≤ 20000
-  pub wide : b .left < b .right
-  pub high : b .top < b .bottom
+abbrev pub EdgesFit : NameBox → Type 0
+EdgesFit b = (b .left ≤ 20000) × (b .top ≤ 20000) × (b .right ≤ 20000) × (b .bottom ≤ 20000) × (b .left < b .right) × (b .top < b .bottom)
 
 -- a box after one with that name has a cause; too many is a cause of no box
 abbrev pub HasCause : NameBox → ℕ → BoxCause → Type 0
@@ -84,10 +79,23 @@ Leads NameFalls p d k = (d ≡ TooMany → ⊥) × ((p < k) ⊎ ((p ≡ k) × (2
 abbrev pub FirstFault : List NameBox → BoxFault → Type 0
 FirstFault bs f = CauseAt bs (f .cause) (f .place) × ((d : BoxCause) (k : ℕ) → CauseAt bs d k → Leads (f .cause) (f .place) d k)
 
+abbrev pub NamesFit : List NameBox → Type 0
+NamesFit bs = (k : ℕ) → k < length bs → NameFits (box-at bs k)
+
+-- the edges of each box fit, side by side and from top to bottom
+abbrev pub SidesFit : List NameBox → Type 0
+SidesFit bs = (k : ℕ) → k < length bs → (box-at bs k .left < box-at bs k .right) × (box-at bs k .right ≤ 20000)
+
+abbrev pub HeightsFit : List NameBox → Type 0
+HeightsFit bs = (k : ℕ) → k < length bs → (box-at bs k .top < box-at bs k .bottom) × (box-at bs k .bottom ≤ 20000)
+
+-- names never fall along the list
+abbrev pub Rises : List NameBox → Type 0
+Rises bs = (k : ℕ) → suc k < length bs → box-at bs k .name ≤ box-at bs (suc k) .name
+
 -- a list that a book can be made of
 pub record Sound (bs : List NameBox) : Type 0 where
   pub few : length bs ≤ 4096
-  pub names-fit : (k : ℕ) → k < length bs → NameFits (box-at bs k)
+  pub names-fit : NamesFit bs
   pub edges-fit : (k : ℕ) → k < length bs → EdgesFit (box-at bs k)
-  -- names never fall along the list
-  pub rises : (k : ℕ) → suc k < length bs → box-at bs k .name ≤ box-at bs (suc k) .name
+  pub rises : Rises bs

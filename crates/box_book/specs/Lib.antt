@@ -3,3 +3,4 @@ pub mod Places
 pub mod Meaning
 pub mod Readings
 pub mod Runs
+pub mod Books

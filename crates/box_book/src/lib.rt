@@ -9,15 +9,25 @@ ghost use Rattle.std.specs.Results.{Cases, isOk};
 ghost use Prim.Native.Nat.{_<_, _≤_};
 ghost use lib.ListN.{length};
 ghost use Rattle.box_book.specs.Places.{some-below, first-below};
-ghost use Rattle.box_book.specs.Meaning.{overlaps, clashes};
+ghost use Rattle.box_book.specs.Meaning.{overlaps, clashes, Allowed};
 ghost use Rattle.box_book.specs.Readings.{is-yes, is-no, clashes-at, crowded-at, lost-at, blocked-at, alone-at, boxes-reading};
+ghost use Rattle.box_book.specs.Books.{boxes-of, size-of};
 ghost use Rattle.box_book.specs.Runs.{RunEnd, FirstKept, open-clash};
 ghost use Rattle.box_book.specs.Causes.{box-number, told-box, Clean, FirstCause, NoFault, FirstFault, Sound};
 use book::Answer;
+use book::Book;
 use book::Mark;
 use book::Reading;
+use book::Unfit;
 use refusal::Layer;
 use refusal::Refusal;
+
+mod checked;
+
+pub use checked::BoxBook;
+
+/// The kind number of a box book.
+pub const BOX_KIND: u16 = 2;
 
 /// The most boxes that a list may have.
 pub const BOX_LIMIT: usize = 4096;
@@ -302,4 +312,31 @@ fn reading(boxes: &[NameBox], marks: &[Mark]) -> Reading
         return Reading::Forced(alone as u16 + 1, Answer::Yes);
     }
     Reading::Quiet
+}
+
+pub impl<'a> Book for BoxBook<'a> as BoxBookBook {
+    const KIND: u16 = BOX_KIND;
+
+    ghost kind = { 2 };
+
+    ghost size = { size-of };
+
+    ghost allows = { λ b a. Allowed (boxes-of b) a };
+
+    ghost reads = { λ b ms. boxes-reading (boxes-of b) ms };
+
+    fn kind_number(&self) -> u16 {
+        BOX_KIND
+    }
+
+    fn choices(&self) -> u16 {
+        self.boxes().len() as u16
+    }
+
+    fn read(&self, marks: &[Mark]) -> Result<Reading, Unfit> {
+        if marks.len() != self.boxes().len() {
+            return Err(Unfit);
+        }
+        Ok(reading(self.boxes(), marks))
+    }
 }
