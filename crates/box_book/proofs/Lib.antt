@@ -1,0 +1,5 @@
+pub mod Checks
+pub mod Finds
+pub mod Laws
+pub mod Blocks
+pub mod Names
