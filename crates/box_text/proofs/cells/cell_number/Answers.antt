@@ -28,18 +28,18 @@ loop-at-holds c =
 
 -- a further digit, as a value n that the code has for it
 on :
-    (v n i : ℕ) (bs : List ℕ) → i < length bs → digit (getD bs i 0) ≡ true → n ≡ getD bs i 0 - 48 → 
+    (v n i : ℕ) (bs : List ℕ) → i < length bs → digit (getD bs i 0) ≡ true → n ≡ getD bs i 0 - 48 →
     in-range (digits-on v (drop i bs)) ≡ in-range (digits-on (v * 10 + n) (drop (i + 1) bs))
 on v n i bs h e q = ap in-range (digit-on v i bs h e) ∙ ap (λ z. in-range (digits-on (v * 10 + z) (drop (i + 1) bs))) (sym q)
 
 pub returns-then-value-gt65535 : need.returns-then-value-gt65535
-returns-then-value-gt65535 c = 
+returns-then-value-gt65535 c =
     let i : ℕ = c .loop-at .at in
     let bs : List ℕ = c .args .cell .now in
     sym (c .loop-at .inv .2 ∙ on (c .loop-at .value) (c .from .result) i bs (c .loop-at-test .taken) (sym (c .if-is-digit .ensures tt)) (c .from .ensures) ∙ too-large (drop (i + 1) bs) _ (c .if-value-gt65535 .taken))
 
 pub loop-at-again : need.loop-at-again
-loop-at-again c = 
+loop-at-again c =
     let i : ℕ = c .loop-at .at in
     let bs : List ℕ = c .args .cell .now in
     (omega arith, omega arith, c .loop-at .inv .2 ∙ on (c .loop-at .value) (c .from .result) i bs (c .loop-at-test .taken) (sym (c .if-is-digit .ensures tt)) (c .from .ensures))
@@ -50,11 +50,11 @@ returns-then-skip-spaces-cell c =
     let v : ℕ = c .loop-at .value in
     let bs : List ℕ = c .args .cell .now in
     let off : digits-on v (drop i bs) ≡ at-end v (past-spaces (drop i bs)) =
-        elim (c .loop-at-test .came) [
-          | then-loop-at-test·else-is-digit w ↦ digit-off v i bs (w .loop-at-test .taken) (sym (w .is-digit-in-loop-at .ensures) ∙ w .if-is-digit .left)
-          | else-loop-at-test w ↦ digit-end v i bs (w .loop-at-test .left)
-        ]
-      in
+    elim (c .loop-at-test .came) [
+      | then-loop-at-test·else-is-digit w ↦ digit-off v i bs (w .loop-at-test .taken) (sym (w .is-digit-in-loop-at .ensures) ∙ w .if-is-digit .left)
+      | else-loop-at-test w ↦ digit-end v i bs (w .loop-at-test .left)
+    ]
+    in
     let spaces = ap (λ z. in-range (at-end v z)) (c .skip-spaces .ensures .past) in
     sym (c .loop-at .inv .2 ∙ ap in-range off ∙ spaces ∙ ap in-range (more-after v (c .skip-spaces .result) bs (c .if-skip-spaces-cell .taken)))
 
@@ -64,10 +64,10 @@ returns c =
     let v : ℕ = c .loop-at .value in
     let bs : List ℕ = c .args .cell .now in
     let off : digits-on v (drop i bs) ≡ at-end v (past-spaces (drop i bs)) =
-        elim (c .loop-at-test .came) [
-          | then-loop-at-test·else-is-digit w ↦ digit-off v i bs (w .loop-at-test .taken) (sym (w .is-digit-in-loop-at .ensures) ∙ w .if-is-digit .left)
-          | else-loop-at-test w ↦ digit-end v i bs (w .loop-at-test .left)
-        ]
-      in
+    elim (c .loop-at-test .came) [
+      | then-loop-at-test·else-is-digit w ↦ digit-off v i bs (w .loop-at-test .taken) (sym (w .is-digit-in-loop-at .ensures) ∙ w .if-is-digit .left)
+      | else-loop-at-test w ↦ digit-end v i bs (w .loop-at-test .left)
+    ]
+    in
     let spaces = ap (λ z. in-range (at-end v z)) (c .skip-spaces .ensures .past) in
     sym (c .loop-at .inv .2 ∙ ap in-range off ∙ spaces ∙ ap in-range (none-after v (c .skip-spaces .result) bs (c .if-skip-spaces-cell .left)) ∙ small v (c .loop-at .inv .1))
