@@ -1,2 +1,3 @@
 pub mod CellSteps
 pub mod Cuts
+pub mod Lines

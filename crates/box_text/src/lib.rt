@@ -1,8 +1,10 @@
 //! The rows of a box list, from the text that a spreadsheet exports.
 mod cells;
+mod reader;
 mod reading;
 
 pub use cells::cell_number;
+pub use reader::RowReader;
 pub use reading::row_of;
 
 /// A row as its five numbers.

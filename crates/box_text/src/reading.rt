@@ -3,9 +3,11 @@ ghost use Prim.Native.Nat.{ℕ, _^_, _<_, _≤_};
 ghost use denote.Ref.{now};
 ghost use lib.ListN.{length, drop, getD};
 ghost use Rattle.box_text.specs.Rows.{cells, cells-ahead, number-at, row-of};
+ghost use Rattle.box_text.specs.Text.{heading};
 use super::CellCause;
 use super::Row;
 use super::cells::cell_number;
+use super::cells::is_digit;
 
 // The cells of a row that are still ahead.
 #[derive(Drop)]
@@ -77,4 +79,16 @@ pub fn find(bytes: &[u8], byte: u8) -> usize
         }
     }
     bytes.len()
+}
+
+// Whether a first row is a heading.
+pub fn is_heading(row: &[u8]) -> bool
+    ensures { λ r. ⌜ r ≡ heading (now (row .entry)) ⌝ }
+{
+    for b in row {
+        if is_digit(*b) {
+            return false;
+        }
+    }
+    !row.is_empty()
 }
