@@ -1,0 +1,3 @@
+pub mod CellSteps
+pub mod Cuts
+pub mod Lines
