@@ -4,6 +4,9 @@ ghost use denote.Ref.{now};
 ghost use lib.ListN.{length, drop};
 ghost use Rattle.box_text.specs.Cells.{digit, past-spaces, cell-number};
 
+// The largest number that a cell can have.
+const LARGEST: u32 = 65535;
+
 /// The number of a cell: digits, with spaces around them or none, of a value up to 65,535. Any other cell has none.
 pub fn cell_number(cell: &[u8]) -> Option<u16>
     ensures { λ r. ⌜ r ≡ cell-number (now (cell .entry)) ⌝ }
@@ -15,7 +18,7 @@ pub fn cell_number(cell: &[u8]) -> Option<u16>
     let mut value: u32 = 0;
     while at < cell.len() && is_digit(cell[at]) {
         value = value * 10 + u32::from(cell[at] - b'0');
-        if value > 65535 {
+        if value > LARGEST {
             return None;
         }
         at += 1;

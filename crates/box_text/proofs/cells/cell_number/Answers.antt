@@ -32,11 +32,11 @@ on :
     in-range (digits-on v (drop i bs)) ≡ in-range (digits-on (v * 10 + n) (drop (i + 1) bs))
 on v n i bs h e q = ap in-range (digit-on v i bs h e) ∙ ap (λ z. in-range (digits-on (v * 10 + z) (drop (i + 1) bs))) (sym q)
 
-pub returns-then-value-gt65535 : need.returns-then-value-gt65535
-returns-then-value-gt65535 c =
+pub returns-then-value-gt-LARGEST : need.returns-then-value-gt-LARGEST
+returns-then-value-gt-LARGEST c =
     let i : ℕ = c .loop-at .at in
     let bs : List ℕ = c .args .cell .now in
-    sym (c .loop-at .inv .2 ∙ on (c .loop-at .value) (c .from .result) i bs (c .loop-at-test .taken) (sym (c .if-is-digit .ensures tt)) (c .from .ensures) ∙ too-large (drop (i + 1) bs) _ (c .if-value-gt65535 .taken))
+    sym (c .loop-at .inv .2 ∙ on (c .loop-at .value) (c .from .result) i bs (c .loop-at-test .taken) (sym (c .if-is-digit .ensures tt)) (c .from .ensures) ∙ too-large (drop (i + 1) bs) _ (c .if-value-gt-LARGEST .taken))
 
 pub loop-at-again : need.loop-at-again
 loop-at-again c =
