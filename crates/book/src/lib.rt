@@ -2,6 +2,8 @@
 //!
 //! A sheet has n choices, numbered from 1. A *mark* belongs to one choice and is open, yes or no; n marks with none open
 //! are an *arrangement*. A *book* says which arrangements it allows, and gives every list of n marks a *reading*.
+#![tactic(auto)]
+
 ghost use Rattle.std.specs.Prelude.{◌≡◌, ℕ, List};
 ghost use Rattle.book.specs.declared.Mark.{Mark};
 ghost use Rattle.book.specs.declared.Reading.{Reading};

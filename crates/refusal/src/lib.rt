@@ -1,4 +1,6 @@
 //! Refusals as they are told: cause, place and layer, and the faults of the layer that several crates share.
+#![tactic(auto)]
+
 ghost use Rattle.std.specs.Prelude.{◌≡◌};
 ghost use Rattle.refusal.specs.Causes.{job_number, told_job};
 

@@ -1,4 +1,5 @@
 //! Rule files: their form and limits, read part by part, and the first fault of a file that breaks them.
+#![tactic(auto)]
 mod fault;
 mod file;
 mod line;

@@ -1,4 +1,5 @@
 //! The reading of a rule file into storage that the caller lends.
+#![tactic(auto)]
 ghost use Rattle.rule_store.specs.Storing.{Read};
 
 mod fill;

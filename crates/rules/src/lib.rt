@@ -3,6 +3,7 @@
 //! A rule has body items, then head items; an item is a choice, or a *count*: choices with a lower and an upper bound.
 //! The entries are the choices of all rules in the order of the file, be they items themselves or choices of a count.
 //! What the rows mean is `decode` of specs/Storage.antt.
+#![tactic(auto)]
 
 /// A run of a list, from `start` up to `end`, which it leaves out.
 #[derive(Clone, Copy, PartialEq, Eq, Debug)]

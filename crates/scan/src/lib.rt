@@ -6,6 +6,7 @@
 //! 65,535, at its first digit. The file ends with `End` where a line would start, and with `Cut` inside a line.
 //!
 //! specs/Text.antt has this as a grammar, and specs/Scans.antt what the scanner answers.
+#![tactic(auto)]
 ghost use Rattle.std.specs.Prelude.{◌≡◌};
 ghost use Rattle.scan.specs.Bytes.{kind};
 ghost use Rattle.scan.specs.Causes.{scan_number};
