@@ -9,7 +9,7 @@ use Rattle.box_book.specs.Places.{first_below}
 use Rattle.box_book.specs.Meaning.{clashes, mark_at}
 use Rattle.box_book.specs.Readings.{is_yes, clashes_at, clashed}
 use Rattle.box_book.specs.Runs.{open_clash}
-use Rattle.box_book.proofs.Finds.{IsFirst, first_is}
+use Rattle.box_book.specs.Finds.{IsFirst, first_is}
 
 -- the box at k is open and clashes with a yes box before place j
 abbrev pub blocked_by : List NameBox → List Mark → ℕ → ℕ → Bool

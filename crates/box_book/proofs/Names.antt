@@ -10,7 +10,7 @@ use Rattle.box_book.specs.Places.{some_below, first_below}
 use Rattle.box_book.specs.Meaning.{mark_at}
 use Rattle.box_book.specs.Readings.{is_no, keeps_at, lost_at, rivals_at, alone_at}
 use Rattle.box_book.specs.Runs.{RunEnd, FirstKept}
-use Rattle.box_book.proofs.Finds.{some_from, none_false, IsFirst}
+use Rattle.box_book.specs.Finds.{some_from, none_false, IsFirst}
 
 -- a run ends before s: the names before are below those from s on
 abbrev pub RunsDone : List NameBox → ℕ → Type 0

@@ -4,3 +4,5 @@ pub mod Meaning
 pub mod Readings
 pub mod Runs
 pub mod Books
+pub mod Laws
+pub mod Finds

@@ -9,6 +9,7 @@ ghost use Rattle.box_book.specs.Meaning.{overlaps, clashes, Allowed};
 ghost use Rattle.box_book.specs.Readings.{is_yes, is_no, clashes_at, crowded_at, lost_at, blocked_at, alone_at, boxes_reading};
 ghost use Rattle.box_book.specs.Books.{boxes_of, size_of};
 ghost use Rattle.box_book.specs.Runs.{RunEnd, FirstKept, open_clash};
+ghost use Rattle.box_book.specs.Laws.{box_laws};
 ghost use Rattle.box_book.specs.Causes.{box_number, told_box, NumberFits, Clean, FirstCause, NoFault, FirstFault, Sound};
 
 use book::{Answer, Book, Mark, Reading, Unfit};
@@ -332,6 +333,8 @@ impl<'a> Book for BoxBook<'a> {
     ghost allows = { λ b a. Allowed (boxes_of b) a };
 
     ghost reads = { λ b ms. boxes_reading (boxes_of b) ms };
+
+    ghost lawful = { λ b. box_laws (boxes_of b) b.few };
 
     fn kind_number(&self) -> u16 {
         BOX_KIND

@@ -1,6 +1,6 @@
 -- What a row reads as, by its cells.
 use Rattle.std.proofs.Common.{◌≡◌, ℕ, ◌≤◌, Bool, true, false, leb, List, length, Some, None, Ok, Err, Option, Result, sym, refl, ap, ◌∙◌, subst, arith}
-use Rattle.std.proofs.lemmas.Bool.{leb-true, le_leb}
+use Rattle.std.proofs.lemmas.Bool.{leb-true, le-leb}
 use Rattle.box_book.specs.declared.NameBox.{NameBox}
 use Rattle.box_text.specs.declared.Row.{Row}
 use Rattle.box_text.specs.declared.CellCause.{CellCause}
@@ -40,4 +40,4 @@ cells_of row a e =
     by : (a : Result Row CellCause) → Tells (cell row 0) (cell row 1) (cell row 2) (cell row 3) (cell row 4) (leb (length (cells row)) 5) a → CellsOf row a
     by (Ok w) t = record { name = t.0; edges = record { left = t.1; top = t.2; right = t.3; bottom = t.4; five = leb-true (length (cells row)) 5 t.5 } }
     by (Err Name) t = t
-    by (Err (Edge n)) t = (t.0, λ b s. t.1 b s.left s.top s.right s.bottom (le_leb (length (cells row)) 5 s.five))
+    by (Err (Edge n)) t = (t.0, λ b s. t.1 b s.left s.top s.right s.bottom (le-leb (length (cells row)) 5 s.five))

@@ -1,7 +1,7 @@
 -- The number of the bytes at a place, one byte after another.
 use Rattle.std.proofs.Common.{◌≡◌, ℕ, ◌+◌, ◌-◌, ◌*◌, ◌<◌, ◌≤◌, Bool, true, false, cond, eqb, leb, ◌⊎◌, List, [], ◌∷◌, length, get_or, drop, Some, None, Option, sym, refl, ap, ◌∙◌, inl, inr, arith}
 use Rattle.std.proofs.lemmas.List.{drop_all, drop_more, at_drop_more, at_drop_all}
-use Rattle.std.proofs.lemmas.Bool.{cases_lt, cases_Bool, eq-eqb, ne_eqb, le_leb, lt_leb}
+use Rattle.std.proofs.lemmas.Bool.{cases_lt, cases_Bool, eq-eqb, ne_eqb, le-leb, lt-leb}
 use Rattle.box_text.specs.Cells.{digit, past_spaces, at_end, digits_on, digits, in_range, cell_number}
 
 pub space_on : (i : ℕ) (bs : List ℕ) → i < length bs → get_or bs i 0 ≡ 32 → past_spaces (drop i bs) ≡ past_spaces (drop (i + 1) bs)
@@ -49,15 +49,15 @@ pub none_after : (v i : ℕ) (bs : List ℕ) → length bs ≤ i → at_end v (d
 none_after v i bs h = rw (drop_all i bs h)
 
 pub small : (v : ℕ) → v ≤ 65535 → in_range (Some v) ≡ Some v
-small v h = rw (le_leb v 65535 h)
+small v h = rw (le-leb v 65535 h)
 
 large_end : (v : ℕ) (bs : List ℕ) → 65535 < v → in_range (at_end v bs) ≡ None
-large_end v [] h = rw (lt_leb v 65535 h)
+large_end v [] h = rw (lt-leb v 65535 h)
 large_end v (b ∷ bs) h = refl
 
 -- no digits bring a value back into range
 pub too_large : (bs : List ℕ) (v : ℕ) → 65535 < v → in_range (digits_on v bs) ≡ None
-too_large [] v h = rw (lt_leb v 65535 h)
+too_large [] v h = rw (lt-leb v 65535 h)
 too_large (b ∷ bs) v h = at (cases_Bool (digit b)) (too_large bs (v * 10 + (b - 48)) (omega arith))
   where
     at : (digit b ≡ true) ⊎ (digit b ≡ false) → in_range (digits_on (v * 10 + (b - 48)) bs) ≡ None → in_range (digits_on v (b ∷ bs)) ≡ None

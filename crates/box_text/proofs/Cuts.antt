@@ -1,6 +1,6 @@
 -- Where the bytes of a row are cut into cells.
 use Rattle.std.proofs.Common.{◌≡◌, ℕ, zero, suc, ◌+◌, ◌-◌, ◌<◌, ◌≤◌, Bool, true, false, cond, eqb, leb, ◌⊎◌, List, [], ◌∷◌, length, get_or, take, drop, is_some, Some, None, Option, sym, refl, ap, ◌∙◌, inl, inr, arith, length-drop, Bor}
-use Rattle.std.proofs.lemmas.Bool.{cases_Bool, eq-eqb, ne_eqb, le_leb, lt_leb, true≢false}
+use Rattle.std.proofs.lemmas.Bool.{cases_Bool, eq-eqb, ne_eqb, le-leb, lt-leb, true≢false}
 use Rattle.std.proofs.lemmas.List.{drop-drop}
 use Rattle.box_text.specs.Rows.{onto, cells, first_number, number_at, read_row, row_of_cells, cells_of}
 
@@ -76,10 +76,10 @@ pub surplus :
     (cs a1 a2 a3 a4 : List (List ℕ)) (o : Option (Bor (List ℕ))) → a1 ≡ drop 1 cs → a2 ≡ drop 1 a1 → a3 ≡ drop 1 a2 → a4 ≡ drop 1 a3 →
     cells_of o ≡ drop 1 a4 → is_some o ≡ true → leb (length cs) 5 ≡ false
 surplus cs a1 a2 a3 a4 o d1 s2 s3 s4 s5 e =
-    lt_leb (length cs) 5 (omega (arith, after_five cs a1 a2 a3 a4 (cells_of o) d1 s2 s3 s4 s5, some_left o e))
+    lt-leb (length cs) 5 (omega (arith, after_five cs a1 a2 a3 a4 (cells_of o) d1 s2 s3 s4 s5, some_left o e))
 
 pub no_surplus :
     (cs a1 a2 a3 a4 : List (List ℕ)) (o : Option (Bor (List ℕ))) → a1 ≡ drop 1 cs → a2 ≡ drop 1 a1 → a3 ≡ drop 1 a2 → a4 ≡ drop 1 a3 →
     cells_of o ≡ drop 1 a4 → is_some o ≡ false → leb (length cs) 5 ≡ true
 no_surplus cs a1 a2 a3 a4 o d1 s2 s3 s4 s5 e =
-    le_leb (length cs) 5 (omega (arith, after_five cs a1 a2 a3 a4 (cells_of o) d1 s2 s3 s4 s5, none_left o e))
+    le-leb (length cs) 5 (omega (arith, after_five cs a1 a2 a3 a4 (cells_of o) d1 s2 s3 s4 s5, none_left o e))

@@ -12,6 +12,7 @@
 //! specs/Text.antt has the rows of a text, specs/Rows.antt what a row reads as, and specs/Reader.antt what the reader
 //! answers.
 #![tactic(auto)]
+
 mod cells;
 mod reader;
 mod reading;

@@ -2,6 +2,7 @@
 //!
 //! Over no bytes at all the functions only measure. So a text is first measured, and then written where it fits.
 #![tactic(auto)]
+
 ghost use Rattle.std.specs.Prelude.{◌≡◌, ◌≤◌, drop, decimal};
 ghost use Rattle.output.specs.Writing.{Wrote, Unwritten, within};
 

@@ -13,8 +13,8 @@ use Rattle.rules.specs.Storage.{run, choices, items, rule_of, decode}
 use Rattle.rule_book.specs.declared.Role.{Role}
 use Rattle.rule_book.specs.Readings.{opens, first_open, rule_reading, first_loud, rules_reading}
 use Rattle.rule_book.specs.Weighing.{weigh, weigh_item}
-use Rattle.rule_book.proofs.Grown.{yes_step, open_step}
-use Rattle.rule_book.proofs.Fold.{weigh_quiet, weigh_append}
+use Rattle.rule_book.specs.Grown.{yes_step, open_step}
+use Rattle.rule_book.specs.Fold.{weigh_quiet, weigh_append}
 
 -- one choice more of a tally, by its mark
 pub tally_more : (ms : List Mark) (cs : List ℕ) (i : ℕ) (m : Mark) → i < length cs → m ≡ mark_at ms (get_or cs i 0) → (yeses ms (drop i cs) ≡ yes_step m + yeses ms (drop (i + 1) cs)) × (opens ms (drop i cs) ≡ open_step m + opens ms (drop (i + 1) cs))

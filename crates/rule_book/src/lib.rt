@@ -8,6 +8,7 @@ ghost use Rattle.rules.specs.Rules.{choice as choice-item, count as count-item, 
 ghost use Rattle.rules.specs.Storage.{run, choices as choice-items, side_items, rule_of};
 ghost use Rattle.rule_book.specs.Readings.{opens, count_status, first_open, count_pressed, rule_reading, rules_reading};
 ghost use Rattle.rule_book.specs.Weighing.{answer_of, weigh, weigh_item};
+ghost use Rattle.rule_book.specs.Laws.{rule_laws};
 ghost use Rattle.rule_book.specs.Meaning.{rules_of, size_of, Allowed};
 
 use book::{Answer, Book, Mark, Reading, SheetSize, Unfit};
@@ -299,6 +300,8 @@ impl<'a> Book for RuleBook<'a> {
     ghost allows = { λ b a. Allowed (size_of b) (rules_of b) a };
 
     ghost reads = { λ b ms. rules_reading ms (rules_of b) };
+
+    ghost lawful = { λ b. rule_laws (size_of b) (rules_of b) b.size.small };
 
     fn kind_number(&self) -> u16 {
         RULE_KIND

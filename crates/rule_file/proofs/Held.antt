@@ -1,5 +1,5 @@
 -- What the machine holds of the parts that it has taken, and so what it finds wrong with the next word.
-use Rattle.std.proofs.Common.{◌≡◌, ℕ, zero, suc, ◌<◌, ◌≤◌, Bool, true, false, cond, eqb, ltb, leb, ◌≢◌, ◌⊎◌, List, [], ◌∷◌, ◌++◌, length, get_or, set, replicate, Some, None, Ok, Err, Option, Result, sym, refl, ap, ◌∙◌, subst, inl, inr, arith, length-set, get_or-set_other, get_or-set_same, ltb-false, ltb-true, lt-ltb, eq-eqb, eqb-true, le_leb, leb-true}
+use Rattle.std.proofs.Common.{◌≡◌, ℕ, zero, suc, ◌<◌, ◌≤◌, Bool, true, false, cond, eqb, ltb, leb, ◌≢◌, ◌⊎◌, List, [], ◌∷◌, ◌++◌, length, get_or, set, replicate, Some, None, Ok, Err, Option, Result, sym, refl, ap, ◌∙◌, subst, inl, inr, arith, length-set, get_or-set_other, get_or-set_same, ltb-false, ltb-true, lt-ltb, eq-eqb, eqb-true, le-leb, leb-true}
 use lib.ListN.{length-replicate}
 use borrow.Author.Tests.{eqb-false}
 use Rattle.scan.specs.declared.ScanCause.{ScanCause}
@@ -311,7 +311,7 @@ module _ (s : Sum) (m : Mach) (k : Keeps s m) (i : ℕ) where
   many_here e = let h = leb-true 16384 m.tally.entries e in omega (arith, entries_is)
 
   many_there : 16384 ≤ s.entries → leb 16384 m.tally.entries ≡ true
-  many_there h = le_leb 16384 m.tally.entries (omega (arith, entries_is))
+  many_there h = le-leb 16384 m.tally.entries (omega (arith, entries_is))
 
   size_says : (v d : ℕ) → Breaks s (part.Size v) d → One (ltb 4096 v) 16 d
   size_says v d (large_size h) = (refl, lt-ltb 4096 v h)
@@ -320,10 +320,10 @@ module _ (s : Sum) (m : Mach) (k : Keeps s m) (i : ℕ) where
   rules_says v d (many_rules h) = (refl, lt-ltb 2048 v h)
 
   line_says : (d : ℕ) → Breaks s part.RuleLine d → One (leb m.tally.declared m.tally.rules) 17 d
-  line_says d (surplus_rule h) = (refl, le_leb m.tally.declared m.tally.rules (omega (arith, declared_is, rules_is)))
+  line_says d (surplus_rule h) = (refl, le-leb m.tally.declared m.tally.rules (omega (arith, declared_is, rules_is)))
 
   count_says : (d : ℕ) → Breaks s part.CountOpen d → One (leb 1024 m.tally.counts) 16 d
-  count_says d (many_counts h) = (refl, le_leb 1024 m.tally.counts (omega (arith, counts_is)))
+  count_says d (many_counts h) = (refl, le-leb 1024 m.tally.counts (omega (arith, counts_is)))
 
   end_says : (d : ℕ) → Breaks s part.End d → One (ltb m.tally.rules m.tally.declared) 17 d
   end_says d (missing_rule h) = (refl, lt-ltb m.tally.rules m.tally.declared (omega (arith, declared_is, rules_is)))

@@ -1,7 +1,7 @@
 -- What a byte's kind says of the byte.
 use Rattle.std.proofs.Common.{◌≡◌, ℕ, ◌-◌, ◌≤◌, Bool, true, false, cond, eqb, ◌≢◌, [], ◌∷◌, refl, ap, subst, arith}
 use Rattle.std.specs.List.{AllByRecursion as All}
-use Rattle.std.proofs.lemmas.Bool.{leb-true, le_leb, eqb-true, eqb-false, ne_eqb, and_parts, and_from, both_ways}
+use Rattle.std.proofs.lemmas.Bool.{leb-true, le-leb, eqb-true, eqb-false, ne_eqb, and_parts, and_from, both_ways}
 use Rattle.scan.specs.declared.ByteKind.{ByteKind}
 use Rattle.scan.specs.declared.ByteKind.TheVariants.{Digit, Space, Feed, Open, Close, Comma, Header, Comment, Other}
 use Rattle.scan.specs.Bytes.{digit, kind}
@@ -11,7 +11,7 @@ pub digit_is : (b : ℕ) → digit b ≡ true → IsDigit b
 digit_is b e = let p = and_parts _ _ e in (leb-true 48 b p.0, leb-true b 57 p.1)
 
 pub is_digit : (b : ℕ) → IsDigit b → digit b ≡ true
-is_digit b d = and_from _ _ (le_leb 48 b d.0) (le_leb b 57 d.1)
+is_digit b d = and_from _ _ (le-leb 48 b d.0) (le-leb b 57 d.1)
 
 pub no_digit : (b : ℕ) → NoDigit b → digit b ≡ false
 no_digit b n = at (digit b) refl

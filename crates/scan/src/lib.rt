@@ -7,6 +7,7 @@
 //!
 //! specs/Text.antt has this as a grammar, and specs/Scans.antt what the scanner answers.
 #![tactic(auto)]
+
 ghost use Rattle.std.specs.Prelude.{◌≡◌};
 ghost use Rattle.scan.specs.Bytes.{kind};
 ghost use Rattle.scan.specs.Causes.{scan_number};

@@ -4,6 +4,7 @@
 //! and some mark is open, the search *tries* yes at the lowest open choice. Where the marks are broken, the latest trial that is
 //! not yet turned is *turned*: its choice becomes no, and every mark made after it open again.
 #![tactic(auto)]
+
 ghost use Rattle.std.specs.Prelude.{◌≡◌, ◌+◌, ◌≤◌, length, replicate, IfOk, MatchOption};
 ghost use Rattle.book.specs.declared.Mark.TheVariants.{Open as OpenMark};
 ghost use Rattle.solver.specs.Outcome.{Alike, Means, Ran, Searched};

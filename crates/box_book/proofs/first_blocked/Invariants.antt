@@ -1,5 +1,5 @@
 use Rattle.std.proofs.Common.{length}
-use Rattle.box_book.proofs.Finds.{IsFirst}
+use Rattle.box_book.specs.Finds.{IsFirst}
 use Rattle.box_book.proofs.Blocks.{blocked_by}
 use Rattle.box_book.proofs.first_blocked.Given as goal
 

@@ -5,14 +5,14 @@ use Rattle.output.proofs.digits.Goals as goal
 pub loop-left-init : goal.loop-left-init
 loop-left-init c = half_start _ _ (omega arith) (omega arith)
 
-pub overflow-sub-at : goal.overflow-sub-at
-overflow-sub-at c = room _ c.loop-left.left c.loop-left.at c.loop-left.buffer c.loop-left.invariant
+pub overflow_sub-at : goal.overflow_sub-at
+overflow_sub-at c = room _ c.loop-left.left c.loop-left.at c.loop-left.buffer c.loop-left.invariant
 
 pub loop-left-preserved : goal.loop-left-preserved
 loop-left-preserved c = half_more _ c.loop-left.left c.loop-left.at c.loop-left.buffer (omega arith) c.loop-left.invariant
 
-pub overflow-sub-at-2 : goal.overflow-sub-at-2
-overflow-sub-at-2 c = room _ c.loop-left.left c.loop-left.at c.loop-left.buffer c.loop-left.invariant
+pub overflow_sub-at-2 : goal.overflow_sub-at-2
+overflow_sub-at-2 c = room _ c.loop-left.left c.loop-left.at c.loop-left.buffer c.loop-left.invariant
 
 pub returns : goal.returns
 returns c =

@@ -6,8 +6,8 @@ use Rattle.output.proofs.Pieces.{byte_more}
 use Rattle.output.proofs.put.Goals as goal
 use Rattle.output.proofs.put.Goals.{then-at-i, else-at-i}
 
-pub returns-in-err-end : goal.returns-in-err-end
-returns-in-err-end c = rw c.from-residual.ensures (record { text = beyond (omega (arith, c.in-err-end.ensures)); refused = refl })
+pub returns-in_err-end : goal.returns-in_err-end
+returns-in_err-end c = rw c.from_residual.ensures (record { text = beyond (omega (arith, c.in_err-end.ensures)); refused = refl })
 
 pub loop-i-preserved : goal.loop-i-preserved
 loop-i-preserved c =
@@ -20,6 +20,6 @@ returns c =
       text =
           laid _
           (sym (c.loop-i.invariant ∙ ap (λ (r : List ℕ). sets c.loop-i.out (c.args.at + c.loop-i.i) r) (drop_all c.loop-i.i c.args.text.now c.loop-i-test.false)))
-          c.in-ok-end.ensures.1;
+          c.in_ok-end.ensures.1;
       refused = tt;
     }

@@ -1,5 +1,5 @@
 use Rattle.std.proofs.Common.{arith}
-use Rattle.rule_book.proofs.Marks.{mark_at_in, mark_at_none}
+use Rattle.rule_book.specs.Marks.{mark_at_in, mark_at_none}
 use Rattle.rule_book.proofs.mark_at.Goals as goal
 use Rattle.rule_book.proofs.mark_at.Goals.{then-choice-eq0-via-then-choice-eq0, then-choice-eq0-via-else-choice-eq0+then-choice-marks}
 

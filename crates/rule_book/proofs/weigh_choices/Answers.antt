@@ -8,7 +8,7 @@ returns-in-Quiet c =
 
 pub loop-choice-preserved : goal.loop-choice-preserved
 loop-choice-preserved c =
-    c.loop-choice.invariant ∙ choices_more c.args.role c.args.marks.now c.args.choices.now c.loop-choice.reading c.weigh-choice-reading.result c.loop-choice.choice-index c.loop-choice-test.true c.weigh-choice-reading.ensures
+    c.loop-choice.invariant ∙ choices_more c.args.role c.args.marks.now c.args.choices.now c.loop-choice.reading c.weigh_choice-reading.result c.loop-choice.choice-index c.loop-choice-test.true c.weigh_choice-reading.ensures
 
 pub returns : goal.returns
 returns c =

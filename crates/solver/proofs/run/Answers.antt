@@ -9,8 +9,8 @@ loop-reading-init g c = state_start _ _ _ c.args.marks.now c.args.work.now c.req
 pub advance-requires : goal.advance-requires
 advance-requires g c = forced_room _ _ _ _ (g.met.B.Book.lawful c.args.book.now) _ _ _ _ _ _ c.loop-reading.invariant (sym c.in-Ok.ensures.1 ∙ c.in-Forced.is)
 
-pub overflow-add-depth : goal.overflow-add-depth
-overflow-add-depth g c =
+pub overflow_add-depth : goal.overflow_add-depth
+overflow_add-depth g c =
     let r = forced_room _ _ _ _ (g.met.B.Book.lawful c.args.book.now) _ _ _ _ _ _ c.loop-reading.invariant (sym c.in-Ok.ensures.1 ∙ c.in-Forced.is) in
     record { fits = omega (arith, r.1.1.0, r.1.1.1, c.loop-reading.invariant.marks_long, c.loop-reading.invariant.work_long) }
 
@@ -36,8 +36,8 @@ returns-in-Some g c =
 pub advance-requires-in-Some-2 : goal.advance-requires-in-Some-2
 advance-requires-in-Some-2 g c = trial_room _ _ _ _ (g.met.B.Book.lawful c.args.book.now) _ _ _ _ _ c.loop-reading.invariant c.in-Some.ensures.0 c.in-Some.ensures.1
 
-pub overflow-add-depth-in-Some-2 : goal.overflow-add-depth-in-Some-2
-overflow-add-depth-in-Some-2 g c =
+pub overflow_add-depth-in-Some-2 : goal.overflow_add-depth-in-Some-2
+overflow_add-depth-in-Some-2 g c =
     let r = trial_room _ _ _ _ (g.met.B.Book.lawful c.args.book.now) _ _ _ _ _ c.loop-reading.invariant c.in-Some.ensures.0 c.in-Some.ensures.1 in
     record { fits = omega (arith, r.1.1.0, r.1.1.1, c.loop-reading.invariant.marks_long, c.loop-reading.invariant.work_long) }
 

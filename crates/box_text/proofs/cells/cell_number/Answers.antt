@@ -6,20 +6,20 @@ use Rattle.box_text.proofs.cells.cell_number.Goals.{then-at-cell-via-then-at-cel
 
 pub returns-then-at-cell : goal.returns-then-at-cell
 returns-then-at-cell c =
-    let i : ℕ = c.skip-spaces-at.result in
+    let i : ℕ = c.skip_spaces-at.result in
     let bs : List ℕ = c.args.cell.now in
-    let past = c.skip-spaces-at.ensures.past in
+    let past = c.skip_spaces-at.ensures.past in
     elim c.then-at-cell.branch [
       | then-at-cell-via-then-at-cell w ↦ sym (ap (λ z. in_range (digits z)) past ∙ ap in_range (first_none i bs (omega arith)))
-      | then-at-cell-via-else-at-cell+then-not-is-digit w ↦ sym (ap (λ z. in_range (digits z)) past ∙ ap in_range (first_other i bs (omega arith) (sym w.is-digit.ensures ∙ w.if-not-is-digit.true)))
+      | then-at-cell-via-else-at-cell+then-not-is-digit w ↦ sym (ap (λ z. in_range (digits z)) past ∙ ap in_range (first_other i bs (omega arith) (sym w.is_digit.ensures ∙ w.if-not-is_digit.true)))
     ]
 
 pub loop-at-init : goal.loop-at-init
 loop-at-init c =
-    let i : ℕ = c.skip-spaces-at.result in
+    let i : ℕ = c.skip_spaces-at.result in
     let bs : List ℕ = c.args.cell.now in
-    let past = c.skip-spaces-at.ensures.past in
-    (omega arith, omega arith, ap (λ z. in_range (digits z)) past ∙ ap in_range (first_digit i bs (omega arith) (sym c.if-not-is-digit.ensures)))
+    let past = c.skip_spaces-at.ensures.past in
+    (omega arith, omega arith, ap (λ z. in_range (digits z)) past ∙ ap in_range (first_digit i bs (omega arith) (sym c.if-not-is_digit.ensures)))
 
 -- a further digit, as a value n that the code has for it
 on :
@@ -31,27 +31,27 @@ pub returns-then-value-gt-LARGEST : goal.returns-then-value-gt-LARGEST
 returns-then-value-gt-LARGEST c =
     let i : ℕ = c.loop-at.at in
     let bs : List ℕ = c.args.cell.now in
-    sym (c.loop-at.invariant.2 ∙ on c.loop-at.value c.from.result i bs c.loop-at-test.true (sym c.if-is-digit.ensures) c.from.ensures ∙ too_large (drop (i + 1) bs) _ c.if-value-gt-LARGEST.true)
+    sym (c.loop-at.invariant.2 ∙ on c.loop-at.value c.from.result i bs c.loop-at-test.true (sym c.if-is_digit.ensures) c.from.ensures ∙ too_large (drop (i + 1) bs) _ c.if-value-gt-LARGEST.true)
 
 pub loop-at-preserved : goal.loop-at-preserved
 loop-at-preserved c =
     let i : ℕ = c.loop-at.at in
     let bs : List ℕ = c.args.cell.now in
-    (omega arith, omega arith, c.loop-at.invariant.2 ∙ on c.loop-at.value c.from.result i bs c.loop-at-test.true (sym c.if-is-digit.ensures) c.from.ensures)
+    (omega arith, omega arith, c.loop-at.invariant.2 ∙ on c.loop-at.value c.from.result i bs c.loop-at-test.true (sym c.if-is_digit.ensures) c.from.ensures)
 
-pub returns-then-skip-spaces-cell : goal.returns-then-skip-spaces-cell
-returns-then-skip-spaces-cell c =
+pub returns-then-skip_spaces-cell : goal.returns-then-skip_spaces-cell
+returns-then-skip_spaces-cell c =
     let i : ℕ = c.loop-at.at in
     let v : ℕ = c.loop-at.value in
     let bs : List ℕ = c.args.cell.now in
     let off : digits_on v (drop i bs) ≡ at_end v (past_spaces (drop i bs)) =
     elim c.loop-at-test.branch [
-      | then-loop-at-test+else-is-digit w ↦ digit_off v i bs w.loop-at-test.true (sym w.is-digit-in-loop-at.ensures ∙ w.if-is-digit.false)
+      | then-loop-at-test+else-is-digit w ↦ digit_off v i bs w.loop-at-test.true (sym w.is_digit-in-loop-at.ensures ∙ w.if-is_digit.false)
       | else-loop-at-test w ↦ digit_end v i bs w.loop-at-test.false
     ]
     in
-    let spaces = ap (λ z. in_range (at_end v z)) c.skip-spaces.ensures.past in
-    sym (c.loop-at.invariant.2 ∙ ap in_range off ∙ spaces ∙ ap in_range (more_after v c.skip-spaces.result bs c.if-skip-spaces-cell.true))
+    let spaces = ap (λ z. in_range (at_end v z)) c.skip_spaces.ensures.past in
+    sym (c.loop-at.invariant.2 ∙ ap in_range off ∙ spaces ∙ ap in_range (more_after v c.skip_spaces.result bs c.if-skip_spaces-cell.true))
 
 pub returns : goal.returns
 returns c =
@@ -60,9 +60,9 @@ returns c =
     let bs : List ℕ = c.args.cell.now in
     let off : digits_on v (drop i bs) ≡ at_end v (past_spaces (drop i bs)) =
     elim c.loop-at-test.branch [
-      | then-loop-at-test+else-is-digit w ↦ digit_off v i bs w.loop-at-test.true (sym w.is-digit-in-loop-at.ensures ∙ w.if-is-digit.false)
+      | then-loop-at-test+else-is-digit w ↦ digit_off v i bs w.loop-at-test.true (sym w.is_digit-in-loop-at.ensures ∙ w.if-is_digit.false)
       | else-loop-at-test w ↦ digit_end v i bs w.loop-at-test.false
     ]
     in
-    let spaces = ap (λ z. in_range (at_end v z)) c.skip-spaces.ensures.past in
-    sym (c.loop-at.invariant.2 ∙ ap in_range off ∙ spaces ∙ ap in_range (none_after v c.skip-spaces.result bs c.if-skip-spaces-cell.false) ∙ small v c.loop-at.invariant.1)
+    let spaces = ap (λ z. in_range (at_end v z)) c.skip_spaces.ensures.past in
+    sym (c.loop-at.invariant.2 ∙ ap in_range off ∙ spaces ∙ ap in_range (none_after v c.skip_spaces.result bs c.if-skip_spaces-cell.false) ∙ small v c.loop-at.invariant.1)

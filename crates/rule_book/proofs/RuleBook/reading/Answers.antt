@@ -10,10 +10,10 @@ no_row = record {
   head = record { entries = record { start = 0; end = 0 }; counts = record { start = 0; end = 0 } };
 }
 
-pub returns-in-default : goal.returns-in-default
-returns-in-default c =
+pub returns-in_default : goal.returns-in_default
+returns-in_default c =
     let e = rules_more c.args.marks.now c.args.self.now.rules.now c.args.self.now.counts.now c.args.self.now.entries.now c.loop-row.row-index no_row c.rule_reading.result c.loop-row-test.true c.rule_reading.ensures in
-    sym (c.loop-row.invariant ∙ e ∙ loud c.rule_reading.result _ c.in-default.not-Quiet)
+    sym (c.loop-row.invariant ∙ e ∙ loud c.rule_reading.result _ c.in_default.not-Quiet)
 
 pub loop-row-preserved : goal.loop-row-preserved
 loop-row-preserved c =

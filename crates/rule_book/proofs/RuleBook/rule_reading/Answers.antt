@@ -1,5 +1,5 @@
 use Rattle.rules.specs.Storage.{rule_of}
-use Rattle.rule_book.proofs.Fold.{rule_read, rule_quiet}
+use Rattle.rule_book.specs.Fold.{rule_read, rule_quiet}
 use Rattle.rule_book.proofs.RuleBook.rule_reading.Goals as goal
 
 pub returns-in-Quiet : goal.returns-in-Quiet
@@ -8,4 +8,4 @@ returns-in-Quiet c =
 
 pub returns : goal.returns
 returns c =
-    rule_read c.args.marks.now (rule_of c.args.self.now.counts.now c.args.self.now.entries.now c.args.row) c.weigh-side-body.result c.weigh-side.result c.weigh-side-body.ensures c.weigh-side.ensures
+    rule_read c.args.marks.now (rule_of c.args.self.now.counts.now c.args.self.now.entries.now c.args.row) c.weigh_side-body.result c.weigh_side.result c.weigh_side-body.ensures c.weigh_side.ensures

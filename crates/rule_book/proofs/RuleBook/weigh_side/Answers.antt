@@ -23,15 +23,15 @@ pub returns-in-Quiet-reading : goal.returns-in-Quiet-reading
 returns-in-Quiet-reading c =
     sym (ap (λ (ks : List CountRow). weigh c.args.role c.args.marks.now (items c.args.self.now.entries.now c.args.side.entries.start c.args.side.entries.end ks) c.args.before) (sym c.part-rows.ensures) ∙
     c.loop-row.invariant ∙
-    row_quiet c.args.role c.args.marks.now c.args.self.now.entries.now c.loop-row.start c.args.side.entries.end c.part-rows.result.now c.loop-row.row-index (get_or c.part-rows.result.now c.loop-row.row-index no_row) c.loop-row.reading c.loop-row-test.true (get_or_self c.part-rows.result.now c.loop-row.row-index no_row c.loop-row-test.true) c.part-lone.result.now c.part.result.now c.weigh-choices-reading.result c.part-lone.ensures c.weigh-choices-reading.ensures c.part.ensures c.in-Quiet-reading.ensures)
+    row_quiet c.args.role c.args.marks.now c.args.self.now.entries.now c.loop-row.start c.args.side.entries.end c.part-rows.result.now c.loop-row.row-index (get_or c.part-rows.result.now c.loop-row.row-index no_row) c.loop-row.reading c.loop-row-test.true (get_or_self c.part-rows.result.now c.loop-row.row-index no_row c.loop-row-test.true) c.part-lone.result.now c.part.result.now c.weigh_choices-reading.result c.part-lone.ensures c.weigh_choices-reading.ensures c.part.ensures c.in-Quiet-reading.ensures)
 
 pub loop-row-preserved : goal.loop-row-preserved
 loop-row-preserved c =
     c.loop-row.invariant ∙
-    row_more c.args.role c.args.marks.now c.args.self.now.entries.now c.loop-row.start c.args.side.entries.end c.part-rows.result.now c.loop-row.row-index (get_or c.part-rows.result.now c.loop-row.row-index no_row) c.loop-row.reading c.loop-row-test.true (get_or_self c.part-rows.result.now c.loop-row.row-index no_row c.loop-row-test.true) c.part-lone.result.now c.part.result.now c.weigh-choices-reading.result c.weigh-count-reading.result c.part-lone.ensures c.weigh-choices-reading.ensures c.part.ensures c.weigh-count-reading.ensures
+    row_more c.args.role c.args.marks.now c.args.self.now.entries.now c.loop-row.start c.args.side.entries.end c.part-rows.result.now c.loop-row.row-index (get_or c.part-rows.result.now c.loop-row.row-index no_row) c.loop-row.reading c.loop-row-test.true (get_or_self c.part-rows.result.now c.loop-row.row-index no_row c.loop-row-test.true) c.part-lone.result.now c.part.result.now c.weigh_choices-reading.result c.weigh_count-reading.result c.part-lone.ensures c.weigh_choices-reading.ensures c.part.ensures c.weigh_count-reading.ensures
 
 pub returns : goal.returns
 returns c =
     sym (ap (λ (ks : List CountRow). weigh c.args.role c.args.marks.now (items c.args.self.now.entries.now c.args.side.entries.start c.args.side.entries.end ks) c.args.before) (sym c.part-rows.ensures) ∙
     c.loop-row.invariant ∙
-    rows_all c.args.role c.args.marks.now c.args.self.now.entries.now c.loop-row.start c.args.side.entries.end c.part-rows.result.now c.loop-row.row-index c.loop-row.reading c.part-2.result.now c.weigh-choices.result c.loop-row-test.false c.part-2.ensures c.weigh-choices.ensures)
+    rows_all c.args.role c.args.marks.now c.args.self.now.entries.now c.loop-row.start c.args.side.entries.end c.part-rows.result.now c.loop-row.row-index c.loop-row.reading c.part-2.result.now c.weigh_choices.result c.loop-row-test.false c.part-2.ensures c.weigh_choices.ensures)

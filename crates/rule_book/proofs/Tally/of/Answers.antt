@@ -6,7 +6,7 @@ use Rattle.rule_book.proofs.Tally.of.Goals.{in-Yes, in-Open, in-No}
 
 pub loop-choice-preserved : goal.loop-choice-preserved
 loop-choice-preserved c =
-    elim c.match-mark-at.branch [
+    elim c.match-mark_at.branch [
       | in-Yes w ↦ let t = tally_more c.args.marks.now c.args.choices.now c.loop-choice.choice-index Yes c.loop-choice-test.true w.in-Yes.ensures in
           (omega (arith, w.yes-is), omega (arith, w.most-is), omega (arith, w.yes-is), omega (arith, w.most-is))
       | in-Open w ↦ let t = tally_more c.args.marks.now c.args.choices.now c.loop-choice.choice-index Open c.loop-choice-test.true w.in-Open.ensures in

@@ -5,15 +5,15 @@ use Rattle.box_text.proofs.Lines.{rows_none, left_shorter, takes_last, takes_fee
 use Rattle.box_text.proofs.reader.RowReader.take_row.Goals as goal
 use Rattle.box_text.proofs.reader.RowReader.take_row.Goals.{else-end-gt0-via-then-end-gt0+else-rest-end-eq13, else-end-gt0-via-else-end-gt0}
 
-pub returns-then-is-empty : goal.returns-then-is-empty
-returns-then-is-empty c =
-    let e : rows_of c.args.self.now.rest.now ≡ [] = rows_none c.args.self.now.rest.now (sym c.if-is-empty.ensures) in (e, e, refl)
+pub returns-then-is_empty : goal.returns-then-is_empty
+returns-then-is_empty c =
+    let e : rows_of c.args.self.now.rest.now ≡ [] = rows_none c.args.self.now.rest.now (sym c.if-is_empty.ensures) in (e, e, refl)
 
 pub returns-then-end-rest : goal.returns-then-end-rest
 returns-then-end-rest c =
     let bs : List ℕ = c.args.self.now.rest.now in
     let e : ℕ = c.find-end.result in
-    let z = eqb-false (length bs) 0 (sym c.if-is-empty.ensures) in
+    let z = eqb-false (length bs) 0 (sym c.if-is_empty.ensures) in
     let h : 0 < length bs = omega arith in
     (takes_last e bs h c.if-end-rest.true c.find-end.ensures.before, refl, left_shorter e bs h (omega arith))
 

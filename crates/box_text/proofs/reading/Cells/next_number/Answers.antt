@@ -6,8 +6,8 @@ use Rattle.box_text.proofs.Cuts.{cut_cell, last_cell}
 use Rattle.box_text.proofs.reading.Cells.next_number.Goals as goal
 use Rattle.box_text.proofs.reading.Cells.next_number.Goals.{then-end-rest, else-end-rest}
 
-pub overflow-add-self : goal.overflow-add-self
-overflow-add-self c = omega arith
+pub overflow_add-self : goal.overflow_add-self
+overflow_add-self c = omega arith
 
 pub returns : goal.returns
 returns c =

@@ -49,6 +49,6 @@ returns c =
       | else-loop-self-test w ↦
           record { first = (v.0, v.1 ∙ digit_end i v.0 j bs w.loop-self-test.false, v.2); same = (inv.0, refl); on = omega (arith, ap (λ z. length z.now) inv.0) }
       | then-loop-self-test+in-default w ↦
-          let n : kind (get_or bs j 0) ≡ Digit → ⊥ = λ k. w.in-default.not-Digit (w.kind-of.ensures ∙ k) in
+          let n : kind (get_or bs j 0) ≡ Digit → ⊥ = λ k. w.in_default.not-Digit (w.kind_of.ensures ∙ k) in
           record { first = (v.0, v.1 ∙ digit_off i v.0 j bs w.loop-self-test.true n, v.2); same = (inv.0, refl); on = past _ bs i j (ap (λ x. x.now) inv.0) c.requires.1.1 n inv.1 }
     ]

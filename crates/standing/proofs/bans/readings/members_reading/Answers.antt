@@ -11,17 +11,17 @@ pub returns-in-Away : goal.returns-in-Away
 returns-in-Away c =
     ap finding_reads (sym (away_ends c.args.marks.now c.args.members.now c.loop-member.lacking c.loop-member.member-index _ c.loop-member-test.true c.in-Away.ensures) ∙ c.loop-member.invariant)
 
-pub returns-then-is-some : goal.returns-then-is-some
-returns-then-is-some c =
-    ap finding_reads (sym (open_ends c.args.marks.now c.args.members.now c.loop-member.lacking c.loop-member.member-index _ c.loop-member-test.true c.in-Open.ensures c.if-is-some.ensures) ∙ c.loop-member.invariant)
+pub returns-then-is_some : goal.returns-then-is_some
+returns-then-is_some c =
+    ap finding_reads (sym (open_ends c.args.marks.now c.args.members.now c.loop-member.lacking c.loop-member.member-index _ c.loop-member-test.true c.in-Open.ensures c.if-is_some.ensures) ∙ c.loop-member.invariant)
 
 pub loop-member-preserved : goal.loop-member-preserved
 loop-member-preserved c =
-    elim c.match-member-presence.branch [
+    elim c.match-member_presence.branch [
       | in-There w ↦ ap (λ (o : Option Member). lacks o (ban_finds c.args.marks.now (drop (c.loop-member.member-index + 1) c.args.members.now))) w.lacking-is ∙
           sym (there_more c.args.marks.now c.args.members.now c.loop-member.lacking c.loop-member.member-index _ c.loop-member-test.true w.in-There.ensures) ∙ c.loop-member.invariant
       | in-Open+else-is-some w ↦ ap (λ (o : Option Member). lacks o (ban_finds c.args.marks.now (drop (c.loop-member.member-index + 1) c.args.members.now))) w.lacking-is ∙
-          sym (open_more c.args.marks.now c.args.members.now c.loop-member.lacking c.loop-member.member-index _ c.loop-member-test.true w.in-Open.ensures w.if-is-some.ensures) ∙ c.loop-member.invariant
+          sym (open_more c.args.marks.now c.args.members.now c.loop-member.lacking c.loop-member.member-index _ c.loop-member-test.true w.in-Open.ensures w.if-is_some.ensures) ∙ c.loop-member.invariant
     ]
 
 pub returns-in-None : goal.returns-in-None

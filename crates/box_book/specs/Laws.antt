@@ -13,7 +13,7 @@ use Rattle.box_book.specs.Causes.{box_at}
 use Rattle.box_book.specs.Places.{some_below, first_below}
 use Rattle.box_book.specs.Meaning.{overlaps, clashes, mark_at, Allowed}
 use Rattle.box_book.specs.Readings.{is_yes, is_no, clashes_at, clashed, crowded_at, crowded, keeps_at, lost_at, lost, blocked_at, rivals_at, alone_at, pressed, boxes_reading}
-use Rattle.box_book.proofs.Finds.{some_true, some_from, some_false, none_false, IsFirst, first_is}
+use Rattle.box_book.specs.Finds.{some_true, some_from, some_false, none_false, IsFirst, first_is}
 
 -- marks by their tests
 yes_is : (m : Mark) → is_yes m ≡ true → m ≡ Yes

@@ -8,8 +8,8 @@ use Rattle.rules.specs.Rules.{Item, choice, count, mark_at, yeses, both, either,
 use Rattle.rule_book.specs.declared.Status.{Status}
 use Rattle.rule_book.specs.declared.Status.TheVariants.{Sure, Lost, Unsure}
 use Rattle.rule_book.specs.Readings.{opens, count_status, status, is_sure, is_lost, is_unsure, some_sure, some_lost, unsure_items}
-use Rattle.rule_book.proofs.Marks.{settled_at}
-use Rattle.rule_book.proofs.Grown.{Grows, open_step, sure_holds, lost_not, unsure_open, true_false}
+use Rattle.rule_book.specs.Marks.{settled_at}
+use Rattle.rule_book.specs.Grown.{Grows, open_step, sure_holds, lost_not, unsure_open, true_false}
 
 module _ (ms a : List Mark) (g : Grows ms a) where
   all_by : (i : Item) (is : List Item) (s : Status) → status ms i ≡ s → either (is_lost s) (some_lost ms is) ≡ false → (some_lost ms is ≡ false → all_hold a is ≡ all_hold a (unsure_items ms is)) → both (holds a i) (all_hold a is) ≡ all_hold a (cond (is_unsure s) (i ∷ unsure_items ms is) (unsure_items ms is))

@@ -12,10 +12,10 @@ use Rattle.rules.specs.Rules.{Item, choice, count, Rule, mark_at, is_yes, yeses,
 use Rattle.rule_book.specs.declared.Role.TheVariants.{Body, Head}
 use Rattle.rule_book.specs.Readings.{opens, some_sure, some_lost, unsure_items, first_open, body_pressed, head_pressed, pressed, rule_reading, first_loud, rules_reading}
 use Rattle.rule_book.specs.Meaning.{Allowed}
-use Rattle.rule_book.proofs.Fold.{pressed_broken}
-use Rattle.rule_book.proofs.Marks.{mark_at_in, open_in, settled_at}
-use Rattle.rule_book.proofs.Grown.{Grows, grows, same_grows, above, below, unsure_open, Turns, first_turns, true_false, quiet_forced}
-use Rattle.rule_book.proofs.Items.{all_unsure, some_unsure, lost_fails, sure_passes, first_unsure, no_unsure}
+use Rattle.rule_book.specs.Fold.{pressed_broken}
+use Rattle.rule_book.specs.Marks.{mark_at_in, open_in, settled_at}
+use Rattle.rule_book.specs.Grown.{Grows, grows, same_grows, above, below, unsure_open, Turns, first_turns, true_false, quiet_forced}
+use Rattle.rule_book.specs.Items.{all_unsure, some_unsure, lost_fails, sure_passes, first_unsure, no_unsure}
 
 quiet_broken : Quiet ≡ Broken → ⊥
 quiet_broken e = let z : ◌≡◌ {A = ℕ} 0 1 = cc in omega arith

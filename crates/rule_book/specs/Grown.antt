@@ -1,6 +1,6 @@
 -- Marks and what extends them: a sure item holds there, a lost item does not.
 use Rattle.std.proofs.Common.{◌≡◌, ℕ, zero, suc, ◌+◌, ◌<◌, ◌≤◌, Bool, true, false, cond, leb, ◌⊎◌, List, [], ◌∷◌, length, sym, refl, ap, ◌∙◌, subst, inl, inr, arith}
-use Rattle.std.proofs.lemmas.Bool.{cases_lt, leb-true, le_leb, lt_leb}
+use Rattle.std.proofs.lemmas.Bool.{cases_lt, leb-true, le-leb, lt-leb}
 use Rattle.book.specs.declared.Mark.{Mark}
 use Rattle.book.specs.declared.Mark.TheVariants.{Open, Yes, No}
 use Rattle.book.specs.declared.Answer.{Answer}
@@ -11,7 +11,7 @@ use Rattle.rules.specs.Rules.{Item, choice, count, mark_at, is_yes, yeses, both,
 use Rattle.rule_book.specs.declared.Status.{Status}
 use Rattle.rule_book.specs.declared.Status.TheVariants.{Sure, Lost, Unsure}
 use Rattle.rule_book.specs.Readings.{mark_status, opens, count_status, status, first_open}
-use Rattle.rule_book.proofs.Marks.{get_d_any, mark_at_none}
+use Rattle.rule_book.specs.Marks.{get_d_any, mark_at_none}
 
 -- a choice that is not open keeps its mark
 abbrev pub Grows : List Mark → List Mark → Type 0
@@ -78,17 +78,17 @@ count_means k m y o = by (leb k y) (leb (y + o) m) (leb (suc m) y) (leb (suc (y 
     by false q false false ep eq er es = tt
 
 within : (k m y : ℕ) → k ≤ y → y ≤ m → both (leb k y) (leb y m) ≡ true
-within k m y h g = let p = le_leb k y h in let q = le_leb y m g in rw (p, q)
+within k m y h g = let p = le-leb k y h in let q = le-leb y m g in rw (p, q)
 
 pub above : (k m y : ℕ) → m < y → both (leb k y) (leb y m) ≡ false
-above k m y h = rw (lt_leb y m h) (none (leb k y))
+above k m y h = rw (lt-leb y m h) (none (leb k y))
   where
     none : (b : Bool) → both b false ≡ false
     none true = refl
     none false = refl
 
 pub below : (k m y : ℕ) → y < k → both (leb k y) (leb y m) ≡ false
-below k m y h = rw (lt_leb k y h)
+below k m y h = rw (lt-leb k y h)
 
 -- marks by their status
 abbrev MarkMeans : Mark → Status → Type 0
