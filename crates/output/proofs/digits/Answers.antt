@@ -16,4 +16,7 @@ overflow_sub-at-2 c = room _ c.loop-left.left c.loop-left.at c.loop-left.buffer 
 
 pub returns : goal.returns
 returns c =
-    (half_last _ c.loop-left.left c.loop-left.at c.loop-left.buffer (omega arith) c.loop-left.invariant, omega (arith, c.loop-left.invariant.2))
+    record {
+      buffer_after = half_last _ c.loop-left.left c.loop-left.at c.loop-left.buffer (omega arith) c.loop-left.invariant;
+      upper_bound = omega (arith, c.loop-left.invariant.2);
+    }

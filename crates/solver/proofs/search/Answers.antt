@@ -1,6 +1,9 @@
-use Rattle.std.proofs.Common.{◌≡◌, ℕ, Bool, true, false, cond, not, List, length, replicate, refl, ap, ◌∙◌, inl, inr, arith}
+use Rattle.std.proofs.Common.{◌≡◌, ℕ, Bool, true, false, cond, not, List, length, replicate, refl, sym, ap, ◌∙◌, inl, inr, arith}
 use Rattle.book.specs.declared.Mark.TheVariants.{Open}
-use Rattle.solver.specs.declared.Ending.TheVariants.{Found}
+use denote.Enum.Bare.{sameb}
+use Rattle.solver.specs.contracts.Ending.{the_type}
+use Rattle.solver.specs.declared.Ending.{Ending}
+use Rattle.solver.specs.declared.Ending.TheVariants.{Found, None, Spent}
 use Rattle.solver.proofs.Outcomes.{tree_laws, means, finished}
 use Rattle.solver.proofs.Sameness.{alike}
 use Rattle.solver.proofs.search.Goals as goal
@@ -21,13 +24,13 @@ returns-then-marks-n g c =
     }
 
 -- what `!=` tells
-differs : {P : Type 0} (b r : Bool) → cond b P (P → ⊥) → r ≡ not b → r ≡ true → P → ⊥
-differs true r h e t p = let z : ◌≡◌ {A = ℕ} 0 1 = cc in omega arith
-differs false r h e t p = h p
+differs : (v : Ending) → not (sameb the_type v Found) ≡ true → v ≡ Found → ⊥
+differs v h found = let e : not (sameb the_type v Found) ≡ false = ap (λ w. not (sameb the_type w Found)) found in cc
 
-agrees : {P : Type 0} (b r : Bool) → cond b P (P → ⊥) → r ≡ not b → r ≡ false → P
-agrees true r h e t = h
-agrees false r h e t = absurd (let z : ◌≡◌ {A = ℕ} 0 1 = cc in omega arith)
+agrees : (v : Ending) → not (sameb the_type v Found) ≡ false → v ≡ Found
+agrees Found h = refl
+agrees None h = cc
+agrees Spent h = cc
 
 filled : {A : Type 0} (k n : ℕ) (v : A) (xs : List A) → k ≡ n → xs ≡ replicate k v → xs ≡ replicate n v
 filled k n v xs e h = h ∙ ap (λ (j : ℕ). replicate j v) e
@@ -41,11 +44,11 @@ returns g c =
     let zeros : c.fill-2.new.self ≡ replicate n 0 = filled (length c.run-verdict.new.work) n 0 c.fill-2.new.self (omega (arith, c.run-verdict.auto.work)) (c.fill-2.ensures.after (λ y e. e)) in
     let ne = c.ne.ensures in
     let kept : c.run-verdict.result.ending ≡ Found → c.if-ne.marks ≡ c.run-verdict.new.marks =
-    λ found. elim c.if-ne.branch [ then-ne w ↦ absurd (differs ne.0 c.ne.result ne.1 ne.2 w.if-ne.true found) | else-ne w ↦ w.marks-is ] in
+    λ found. elim c.if-ne.branch [ then-ne w ↦ absurd (differs c.run-verdict.result.ending (sym ne ∙ w.if-ne.true) found) | else-ne w ↦ w.marks-is ] in
     let cleared : (c.run-verdict.result.ending ≡ Found → ⊥) → c.if-ne.marks ≡ replicate n Open =
     λ apart. elim c.if-ne.branch [
       | then-ne w ↦ filled (length c.run-verdict.new.marks) n Open c.if-ne.marks (omega (arith, c.run-verdict.auto.marks, c.fill.auto.self)) (w.marks-is ∙ w.fill-then-ne.ensures.after (λ y e. e))
-      | else-ne w ↦ absurd (apart (agrees ne.0 c.ne.result ne.1 ne.2 w.if-ne.false))
+      | else-ne w ↦ absurd (apart (agrees c.run-verdict.result.ending (sym ne ∙ w.if-ne.false)))
     ] in
     record {
       does =

@@ -2,7 +2,7 @@ use Rattle.std.proofs.Common.{◌≡◌, ℕ, ◌+◌, ◌-◌, ◌*◌, ◌<◌
 use Rattle.box_text.specs.Cells.{digit, digits, digits_on, in_range, at_end, past_spaces}
 use Rattle.box_text.proofs.CellSteps.{first_digit, first_other, first_none, digit_on, digit_off, digit_end, more_after, none_after, small, too_large}
 use Rattle.box_text.proofs.cells.cell_number.Goals as goal
-use Rattle.box_text.proofs.cells.cell_number.Goals.{then-at-cell-via-then-at-cell, then-at-cell-via-else-at-cell+then-not-is-digit, then-loop-at-test+else-is-digit, else-loop-at-test}
+use Rattle.box_text.proofs.cells.cell_number.Goals.{then-at-cell-via-then-at-cell, then-at-cell-via-else-at-cell+then-not-is_digit, then-loop-at-test+else-is_digit, else-loop-at-test}
 
 pub returns-then-at-cell : goal.returns-then-at-cell
 returns-then-at-cell c =
@@ -11,7 +11,7 @@ returns-then-at-cell c =
     let past = c.skip_spaces-at.ensures.past in
     elim c.then-at-cell.branch [
       | then-at-cell-via-then-at-cell w ↦ sym (ap (λ z. in_range (digits z)) past ∙ ap in_range (first_none i bs (omega arith)))
-      | then-at-cell-via-else-at-cell+then-not-is-digit w ↦ sym (ap (λ z. in_range (digits z)) past ∙ ap in_range (first_other i bs (omega arith) (sym w.is_digit.ensures ∙ w.if-not-is_digit.true)))
+      | then-at-cell-via-else-at-cell+then-not-is_digit w ↦ sym (ap (λ z. in_range (digits z)) past ∙ ap in_range (first_other i bs (omega arith) (sym w.is_digit.ensures ∙ w.if-not-is_digit.true)))
     ]
 
 pub loop-at-init : goal.loop-at-init
@@ -46,7 +46,7 @@ returns-then-skip_spaces-cell c =
     let bs : List ℕ = c.args.cell.now in
     let off : digits_on v (drop i bs) ≡ at_end v (past_spaces (drop i bs)) =
     elim c.loop-at-test.branch [
-      | then-loop-at-test+else-is-digit w ↦ digit_off v i bs w.loop-at-test.true (sym w.is_digit-in-loop-at.ensures ∙ w.if-is_digit.false)
+      | then-loop-at-test+else-is_digit w ↦ digit_off v i bs w.loop-at-test.true (sym w.is_digit-in-loop-at.ensures ∙ w.if-is_digit.false)
       | else-loop-at-test w ↦ digit_end v i bs w.loop-at-test.false
     ]
     in
@@ -60,7 +60,7 @@ returns c =
     let bs : List ℕ = c.args.cell.now in
     let off : digits_on v (drop i bs) ≡ at_end v (past_spaces (drop i bs)) =
     elim c.loop-at-test.branch [
-      | then-loop-at-test+else-is-digit w ↦ digit_off v i bs w.loop-at-test.true (sym w.is_digit-in-loop-at.ensures ∙ w.if-is_digit.false)
+      | then-loop-at-test+else-is_digit w ↦ digit_off v i bs w.loop-at-test.true (sym w.is_digit-in-loop-at.ensures ∙ w.if-is_digit.false)
       | else-loop-at-test w ↦ digit_end v i bs w.loop-at-test.false
     ]
     in

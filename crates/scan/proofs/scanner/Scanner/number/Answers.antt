@@ -5,7 +5,7 @@ use Rattle.scan.specs.Bytes.{kind}
 use Rattle.scan.proofs.OfKind.{digit_small}
 use Rattle.scan.proofs.Steps.{number_on, digit_on, digit_off, digit_end, kept_more}
 use Rattle.scan.proofs.scanner.Scanner.number.Goals as goal
-use Rattle.scan.proofs.scanner.Scanner.number.Goals.{else-loop-self-test, then-loop-self-test+in-default}
+use Rattle.scan.proofs.scanner.Scanner.number.Goals.{else-loop-self-test, then-loop-self-test+in_default}
 
 pub loop-self-init : goal.loop-self-init
 loop-self-init c =
@@ -48,7 +48,7 @@ returns c =
     elim c.loop-self-test.branch [
       | else-loop-self-test w ↦
           record { first = (v.0, v.1 ∙ digit_end i v.0 j bs w.loop-self-test.false, v.2); same = (inv.0, refl); on = omega (arith, ap (λ z. length z.now) inv.0) }
-      | then-loop-self-test+in-default w ↦
+      | then-loop-self-test+in_default w ↦
           let n : kind (get_or bs j 0) ≡ Digit → ⊥ = λ k. w.in_default.not-Digit (w.kind_of.ensures ∙ k) in
           record { first = (v.0, v.1 ∙ digit_off i v.0 j bs w.loop-self-test.true n, v.2); same = (inv.0, refl); on = past _ bs i j (ap (λ x. x.now) inv.0) c.requires.1.1 n inv.1 }
     ]

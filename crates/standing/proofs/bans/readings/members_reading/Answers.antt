@@ -5,7 +5,7 @@ use Rattle.standing.specs.declared.Member.{Member}
 use Rattle.standing.specs.Readings.{finding_reads, ban_finds, whole}
 use Rattle.standing.proofs.Findings.{lacks, there_more, away_ends, open_more, open_ends, finds_all}
 use Rattle.standing.proofs.bans.readings.members_reading.Goals as goal
-use Rattle.standing.proofs.bans.readings.members_reading.Goals.{in-There, in-Open+else-is-some}
+use Rattle.standing.proofs.bans.readings.members_reading.Goals.{in-There, in-Open+else-is_some}
 
 pub returns-in-Away : goal.returns-in-Away
 returns-in-Away c =
@@ -20,7 +20,7 @@ loop-member-preserved c =
     elim c.match-member_presence.branch [
       | in-There w ↦ ap (λ (o : Option Member). lacks o (ban_finds c.args.marks.now (drop (c.loop-member.member-index + 1) c.args.members.now))) w.lacking-is ∙
           sym (there_more c.args.marks.now c.args.members.now c.loop-member.lacking c.loop-member.member-index _ c.loop-member-test.true w.in-There.ensures) ∙ c.loop-member.invariant
-      | in-Open+else-is-some w ↦ ap (λ (o : Option Member). lacks o (ban_finds c.args.marks.now (drop (c.loop-member.member-index + 1) c.args.members.now))) w.lacking-is ∙
+      | in-Open+else-is_some w ↦ ap (λ (o : Option Member). lacks o (ban_finds c.args.marks.now (drop (c.loop-member.member-index + 1) c.args.members.now))) w.lacking-is ∙
           sym (open_more c.args.marks.now c.args.members.now c.loop-member.lacking c.loop-member.member-index _ c.loop-member-test.true w.in-Open.ensures w.if-is_some.ensures) ∙ c.loop-member.invariant
     ]
 
