@@ -3,9 +3,9 @@ use Rattle.output.proofs.Pieces.{no_room}
 use Rattle.printing.proofs.Room.{printed}
 use Rattle.printing.proofs.print_verdict.Goals as goal
 
-pub returns-then-not-has-room : goal.returns-then-not-has-room
-returns-then-not-has-room c = (refl, no_room _ (omega arith) c.put-verdict.ensures (sym c.if-not-has-room.ensures), refl)
+pub returns-then-not-has_room : goal.returns-then-not-has_room
+returns-then-not-has_room c = (refl, no_room _ (omega arith) c.put_verdict.ensures (sym c.if-not-has_room.ensures), refl)
 
 pub returns : goal.returns
 returns c =
-    printed _ c.args.out.now _ _ c.ok-or.result (omega arith) c.put-verdict.ensures c.if-not-has-room.ensures c.put-verdict-2.ensures c.ok-or.ensures.value
+    printed _ c.args.out.now _ _ c.ok_or.result (omega arith) c.put_verdict.ensures c.if-not-has_room.ensures c.put_verdict-2.ensures c.ok_or.ensures.value

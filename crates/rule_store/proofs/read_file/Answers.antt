@@ -12,8 +12,8 @@ use Rattle.rule_store.proofs.read_file.Goals as goal
 pub returns : goal.returns
 returns c =
     let bs = c.args.bytes.now in
-    let told = c.in-ok-extent.ensures in
-    let x = c.in-ok-extent.extent in
+    let told = c.in_ok-extent.ensures in
+    let x = c.in_ok-extent.extent in
     let a = told.checked in
     let rs : List Rule = a.the_rules in
     let p = told.passes.1 in

@@ -20,14 +20,14 @@ refused_at bs f g e b r =
     let k : length bs ≤ 65535 → Refuses start_mach (file_words bs) g.fault = λ h. subst (Refuses start_mach (file_words bs)) (sym q) (r h) in
     (refused bs g (e ∙ ap (located bs) (sym q)) (λ h. q ∙ b h) k, k)
 
-pub returns-then-bytes-gt-MAX-BYTES : goal.returns-then-bytes-gt-MAX-BYTES
-returns-then-bytes-gt-MAX-BYTES c =
+pub returns-then-bytes-gt-MAX_BYTES : goal.returns-then-bytes-gt-MAX_BYTES
+returns-then-bytes-gt-MAX_BYTES c =
     let x = refused_at c.args.bytes.now (File Bytes 65535) c.refused.result c.refused.ensures (λ _. refl) (λ h. absurd (omega arith)) in
     record { checked = x.0; passes = x.1; parts = passed_as_form; spelled = spelled_once; answered = answered_once }
 
 pub returns-in-Ok : goal.returns-in-Ok
 returns-in-Ok c =
-    let p : Passed c.args.bytes.now (Ok c.in-Ok.extent) = (c.if-bytes-gt-MAX-BYTES.false, c.in-Ok.ensures) in
+    let p : Passed c.args.bytes.now (Ok c.in-Ok.extent) = (c.if-bytes-gt-MAX_BYTES.false, c.in-Ok.ensures) in
     record { checked = accepted _ _ p; passes = p; parts = passed_as_form; spelled = spelled_once; answered = answered_once }
 
 pub returns-in-Err : goal.returns-in-Err

@@ -11,19 +11,19 @@ pub loop-reader-init : goal.loop-reader-init
 loop-reader-init c = leads_start _ c.new-reader.result c.new-reader.ensures
 
 pub loop-reader-smaller : goal.loop-reader-smaller
-loop-reader-smaller c = c.in-ok-next-part.ensures.nearer (not_end _ c.in-default.not-End)
+loop-reader-smaller c = c.in_ok-next_part.ensures.nearer (not_end _ c.in_default.not-End)
 
 pub loop-reader-preserved : goal.loop-reader-preserved
 loop-reader-preserved c =
-    leads_on _ c.loop-reader.reader c.next-part.new.self c.in-ok-next-part.field-0
-    c.in-ok-next-part.ensures.moves (not_end _ c.in-default.not-End) c.loop-reader.invariant
+    leads_on _ c.loop-reader.reader c.next_part.new.self c.in_ok-next_part.field-0
+    c.in_ok-next_part.ensures.moves (not_end _ c.in_default.not-End) c.loop-reader.invariant
 
-pub returns-in-err-next-part : goal.returns-in-err-next-part
-returns-in-err-next-part c =
-    let p = err_from_is_err_and c.from-residual.result c.from-residual.ensures.1 in
-    rw (p.1, p.2) (leads_stop _ _ _ _ c.in-err-next-part.ensures.moves c.loop-reader.invariant)
+pub returns-in_err-next_part : goal.returns-in_err-next_part
+returns-in_err-next_part c =
+    let p = err_from_is_err_and c.from_residual.result c.from_residual.ensures.1 in
+    rw (p.1, p.2) (leads_stop _ _ _ _ c.in_err-next_part.ensures.moves c.loop-reader.invariant)
 
 pub returns-in-End : goal.returns-in-End
 returns-in-End c =
-    let k = leads_end _ c.loop-reader.reader c.next-part.new.self c.in-ok-next-part.field-0 c.in-ok-next-part.ensures.moves c.in-End.is c.loop-reader.invariant in
-    (k.0, mach c.next-part.new.self, k.1, ap (λ (x : SheetSize). x.value) c.size.ensures, ap (λ (x : Tally). x.rules) c.tally.ensures)
+    let k = leads_end _ c.loop-reader.reader c.next_part.new.self c.in_ok-next_part.field-0 c.in_ok-next_part.ensures.moves c.in-End.is c.loop-reader.invariant in
+    (k.0, mach c.next_part.new.self, k.1, ap (λ (x : SheetSize). x.value) c.size.ensures, ap (λ (x : Tally). x.rules) c.tally.ensures)

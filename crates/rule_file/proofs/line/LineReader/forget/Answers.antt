@@ -4,4 +4,4 @@ use Rattle.rule_file.proofs.line.LineReader.forget.Goals as goal
 
 pub returns : goal.returns
 unfolding none_seen
-returns c = (refl, (refl, refl))
+returns c = record { seen_after = refl; state_unchanged = (refl, refl) }
