@@ -1,7 +1,7 @@
 -- Numbers in storage have 16 bits, so that those of its rules are small.
 use Rattle.std.proofs.Common.{ℕ, ◌+◌, ◌-◌, ◌<◌, ◌≤◌, List, [], ◌∷◌, length, get_or, drop, Some, None, Option, sym, subst, arith, w16, Fits}
 use Rattle.std.specs.List.{AllByRecursion as All}
-use Rattle.std.proofs.ByRecursion.{All-from_get_or, AllAppend, All-take, All-drop}
+use Rattle.std.proofs.ByRecursion.{All-from_get_or, All-append, All-take, All-drop}
 use Rattle.std.proofs.lemmas.List.{drop_more, drop_all}
 use Rattle.rules.specs.declared.CountRow.{CountRow}
 use Rattle.rules.specs.declared.RuleRow.{RuleRow}
@@ -29,7 +29,7 @@ pub row_small : (xs : List ℕ) (a b : ℕ) (ks : List CountRow) (i : ℕ) (d : 
 row_small xs a b ks i d h t lower upper rest =
     let k : CountRow = get_or ks i d in
     subst (λ (js : List CountRow). All SmallItem (items xs a b js)) (sym (drop_more ks i d h))
-    (AllAppend SmallItem (choices (run a k.choices.start xs)) (count k.lower k.upper (run k.choices.start k.choices.end xs) ∷ items xs k.choices.end b (drop (i + 1) ks)) (choices_small (run a k.choices.start xs) (run_small xs a k.choices.start t))
+    (All-append SmallItem (choices (run a k.choices.start xs)) (count k.lower k.upper (run k.choices.start k.choices.end xs) ∷ items xs k.choices.end b (drop (i + 1) ks)) (choices_small (run a k.choices.start xs) (run_small xs a k.choices.start t))
     ((lower, upper, run_small xs k.choices.start k.choices.end t), rest))
 
 -- past the last count row

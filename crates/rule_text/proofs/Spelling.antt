@@ -2,7 +2,7 @@
 use Rattle.std.proofs.Common.{◌≡◌, ℕ, ◌+◌, ◌-◌, ◌*◌, ◌/◌, ◌%◌, ◌<◌, ◌≤◌, ◌≢◌, List, [], ◌∷◌, ◌++◌, length, codes, decimal, sym, refl, ap, ◌∙◌, subst, append_assoc, append-nil, arith}
 use Rattle.std.specs.List.{AllByRecursion as All}
 use Rattle.std.proofs.lemmas.Fmt.{decimal_by_steps}
-use Rattle.std.proofs.ByRecursion.{AllAppend, All-weaker}
+use Rattle.std.proofs.ByRecursion.{All-append, All-weaker}
 use Rattle.scan.specs.Text.{First, IsDigit, NoDigit, InOneLine, value, Mark, an_opening, a_closing, a_comma, Spells, nothing, space, mark, digits, SpellsLine, headed, unheaded, ReadsFrom, file_end, whole_line}
 use Rattle.scan.specs.Words.{Word, line, header, number, opening, closing, comma, feed, end, Placed}
 use Rattle.rules.specs.Rules.{Item, choice, count, Rule}
@@ -35,7 +35,7 @@ numeral n h = decimal_by_steps Numeral one_digit one_more n h
           x.0,
           x.1 ++ ((48 + n % 10) ∷ []),
           ap (λ (z : List ℕ). z ++ ((48 + n % 10) ∷ [])) x.2,
-          AllAppend IsDigit (x.0 ∷ x.1) ((48 + n % 10) ∷ []) x.3 ((omega arith, omega arith), tt),
+          All-append IsDigit (x.0 ∷ x.1) ((48 + n % 10) ∷ []) x.3 ((omega arith, omega arith), tt),
           omega arith,
         )
 
@@ -113,7 +113,7 @@ spaced_line [] vs a = tt
 spaced_line (t ∷ ts) [] a = absurd a
 spaced_line (t ∷ []) (v ∷ vs) a = a.0.one_line
 spaced_line (t ∷ u ∷ ts) (v ∷ vs) a =
-    AllAppend (λ b. b ≢ 10) t (32 ∷ spaced (u ∷ ts)) a.0.one_line ((λ e. omega arith), spaced_line (u ∷ ts) vs a.1)
+    All-append (λ b. b ≢ 10) t (32 ∷ spaced (u ∷ ts)) a.0.one_line ((λ e. omega arith), spaced_line (u ∷ ts) vs a.1)
 
 first_of : (P : ℕ → Type 0) (t : List ℕ) (b : ℕ) (bs rest : List ℕ) → t ≡ b ∷ bs → P b → First P (t ++ rest)
 first_of P t b bs rest e p = subst (λ (z : List ℕ). First P (z ++ rest)) (sym e) p

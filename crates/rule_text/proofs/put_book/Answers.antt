@@ -17,6 +17,6 @@ returns c =
     let whole : writing (size_of c.args.book.now) (rules_of c.args.book.now) ≡ writing c.choices.result (decode c.rules.result.now c.counts.result.now c.entries.result.now) = cc in
     let many : Small (length (rules_of c.args.book.now)) = omega (arith, ap length same ∙ length_decode c.rules.result.now c.counts.result.now c.entries.result.now) in
     record {
-      text = same_text whole c.put-rules.ensures.text;
-      spelled = if_some_then c.put-rules.result (λ h. reads_back (size_of c.args.book.now) (rules_of c.args.book.now) (omega (arith, c.args.book.now.size.small)) many (subst (λ (rs : List Rule). All SmallRule rs) (sym same) h)) c.put-rules.ensures.small;
+      text = same_text whole c.put_rules.ensures.text;
+      spelled = if_some_then c.put_rules.result (λ h. reads_back (size_of c.args.book.now) (rules_of c.args.book.now) (omega (arith, c.args.book.now.size.small)) many (subst (λ (rs : List Rule). All SmallRule rs) (sym same) h)) c.put_rules.ensures.small;
     }

@@ -20,7 +20,7 @@ returns g c =
                   marks = done.marks;
                   truth = c.in-Ok.ensures.truth;
                 };
-            printed = c.print-verdict.ensures;
+            printed = c.print_verdict.ensures;
           };
-      within = printed_within (verdict_text v c.search.new.marks) c.args.out.now c.print-verdict.new.out c.print-verdict.result c.print-verdict.ensures;
+      within = printed_within (verdict_text v c.search.new.marks) c.args.out.now c.print_verdict.new.out c.print_verdict.result c.print_verdict.ensures;
     }

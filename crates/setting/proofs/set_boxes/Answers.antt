@@ -16,22 +16,22 @@ use Rattle.setting.proofs.set_boxes.Goals as goal
 pub returns-in-Ok : goal.returns-in-Ok
 returns-in-Ok c =
     let n : ℕ = c.in-Ok.n in
-    let list : List NameBox = c.read-boxes.new.boxes in
+    let list : List NameBox = c.read_boxes.new.boxes in
     let listed = c.in-Ok.ensures.read.1 in
     let zero : n - 0 ≡ n = omega arith in
     let front : take (n - 0) list ≡ take n list = ap (λ (k : ℕ). take k list) zero in
     let same : c.of-book.result.boxes.now ≡ take n list = c.of-book.ensures.sound (subst Sound (sym front) listed.sound) ∙ front in
-    let printed = λ (bs : List NameBox). SearchPrinted (length bs) (Allowed bs) (boxes_reading bs) c.args.allowance c.args.out.now c.print-search.new.out c.print-search.result in
+    let printed = λ (bs : List NameBox). SearchPrinted (length bs) (Allowed bs) (boxes_reading bs) c.args.allowance c.args.out.now c.print_search.new.out c.print_search.result in
     record {
-      printed = sought (take n list) listed (subst printed same c.print-search.ensures.searched);
-      within = c.print-search.ensures.within;
+      printed = sought (take n list) listed (subst printed same c.print_search.ensures.searched);
+      within = c.print_search.ensures.within;
     }
 
 pub returns-in-Err : goal.returns-in-Err
 returns-in-Err c =
-    let whole : Printed (refusal_text_at (told_list c.in-Err.fault) (Row c.in-Err.fault.row)) c.args.out.now c.print-refusal-at.new.out c.print-refusal-at.result =
-    subst (λ (f : Refusal). Printed (refusal_text_at f (Row c.in-Err.fault.row)) c.args.out.now c.print-refusal-at.new.out c.print-refusal-at.result) c.from.ensures c.print-refusal-at.ensures in
+    let whole : Printed (refusal_text_at (told_list c.in-Err.fault) (Row c.in-Err.fault.row)) c.args.out.now c.print_refusal_at.new.out c.print_refusal_at.result =
+    subst (λ (f : Refusal). Printed (refusal_text_at f (Row c.in-Err.fault.row)) c.args.out.now c.print_refusal_at.new.out c.print_refusal_at.result) c.from.ensures c.print_refusal_at.ensures in
     record {
       printed = refused c.in-Err.fault c.in-Err.ensures.read.0 whole;
-      within = printed_within (refusal_text_at (told_list c.in-Err.fault) (Row c.in-Err.fault.row)) c.args.out.now c.print-refusal-at.new.out c.print-refusal-at.result whole;
+      within = printed_within (refusal_text_at (told_list c.in-Err.fault) (Row c.in-Err.fault.row)) c.args.out.now c.print_refusal_at.new.out c.print_refusal_at.result whole;
     }
