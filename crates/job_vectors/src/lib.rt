@@ -1,4 +1,5 @@
 //! The worked examples with pins and bans, and jobs over books of each kind.
 #![tactic(auto)]
+
 #[cfg(test)]
 mod jobs;

@@ -3,6 +3,7 @@
 //! The file is a header and then each rule on a line, with one space between tokens, no leading zeros and no comments.
 //! specs/Writing.antt has it as `writing`; it reads back as the same rules, by the theorems of specs/Back.antt.
 #![tactic(auto)]
+
 ghost use Rattle.std.specs.Prelude.{length, OnOk};
 ghost use Rattle.std.specs.List.{AllByRecursion as All};
 ghost use Rattle.output.specs.Writing.{Wrote};

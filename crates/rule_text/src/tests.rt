@@ -61,18 +61,18 @@ const ENTRIES: [u16; 9] = [1, 20, 300, 4, 5, 6, 7, 8, 4096];
 
 const TEXT: &[u8] = b"p 4096 3\n1 20 , 300\n{ 0 1 4 5 } { 0 0 } , 6 { 1 65535 7 8 } 4096\n,\n";
 
-fn says(rt: &impl Abort, out: &mut [u8], expected: Option<&[u8]>) -> Result<(), Fail> {
+fn says(rt: &impl Abort, out: &mut [u8], expected: Option<&[u8]>, what: &str) -> Result<(), Fail> {
     let Some(size) = SheetSize::new(4096) else {
         return Err(Fail::new("a sheet has 4,096 choices"));
     };
     let book = RuleBook::new(size, &RULES, &COUNTS, &ENTRIES);
     match (write_rules(&book, out), expected) {
         (Ok(length), Some(text)) => {
-            assert_eq!(rt; &out[0..length], text);
+            assert_eq!(rt; &out[0..length], text, "{what}");
             Ok(())
         },
         (Err(fault), None) => {
-            assert_eq!(rt; fault.line, 1);
+            assert_eq!(rt; fault.line, 1, "{what}");
             Ok(())
         },
         (Ok(_), None) => Err(Fail::new("written into too short a list")),
@@ -83,9 +83,9 @@ fn says(rt: &impl Abort, out: &mut [u8], expected: Option<&[u8]>) -> Result<(), 
 #[test]
 fn rules_and_counts(rt: HostRuntime) -> Result<(), Fail> {
     let mut long = [0; 100];
-    says(&rt, &mut long, Some(TEXT)).note("with room to spare")?;
+    says(&rt, &mut long, Some(TEXT), "with room to spare")?;
     let mut just = [0; 67];
-    says(&rt, &mut just, Some(TEXT)).note("with just the room")?;
+    says(&rt, &mut just, Some(TEXT), "with just the room")?;
     let mut short = [0; 66];
-    says(&rt, &mut short, None).note("with a byte too few")
+    says(&rt, &mut short, None, "with a byte too few")
 }

@@ -4,6 +4,7 @@
 //! *members*, one to eight, each a choice and an answer, with rising choices. At most 64 bans stand, numbered from 1 in the
 //! order in which they were made. Both tables have their full size from the start, so no call on them can run out of memory.
 #![tactic(auto)]
+
 ghost use Rattle.std.specs.Prelude.{◌≡◌};
 ghost use Rattle.std.specs.Result.{result_err};
 ghost use Rattle.standing.specs.Table.{outside, pin_fault};

@@ -65,8 +65,8 @@ fn lifts(rt: HostRuntime) -> Result<(), Fail> {
     let [first, second, third] = bans.rows() else {
         return Err(Fail::new("three bans are left"));
     };
-    assert_eq!(rt; first.members(), &[yes(1)]);
-    assert_eq!(rt; second.members(), &[yes(3)]);
-    assert_eq!(rt; third.members(), &[yes(4)]);
+    assert_eq!(rt; first.members(), [yes(1)].as_slice());
+    assert_eq!(rt; second.members(), [yes(3)].as_slice());
+    assert_eq!(rt; third.members(), [yes(4)].as_slice());
     Ok(())
 }

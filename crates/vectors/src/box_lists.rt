@@ -16,16 +16,16 @@ const fn prints(text: &'static [u8], says: &'static [u8]) -> Case {
     Case { text, says }
 }
 
-fn says(rt: &impl Abort, text: &[u8], expected: &[u8]) -> Result<(), Fail> {
+fn says(rt: &impl Abort, text: &[u8], expected: &[u8], what: &str) -> Result<(), Fail> {
     let mut out = [0; 128];
     let n = set_boxes(text, 1_000_000, &mut out)?;
-    assert_eq!(rt; &out[0..n], expected);
+    assert_eq!(rt; &out[0..n], expected, "{what}");
     Ok(())
 }
 
 fn all_hold(rt: &impl Abort, cases: &[Case]) -> Result<(), Fail> {
     for c in cases {
-        says(rt, c.text, c.says)?;
+        says(rt, c.text, c.says, "a row of the table")?;
     }
     Ok(())
 }
@@ -116,12 +116,22 @@ fn most(rt: HostRuntime) -> Result<(), Fail> {
     let heap = rt.alloc();
     let all = boxes(heap, b"", 4096)?;
     assert!(rt; !has_too_many(all.as_slice()));
-    says(&rt, all.as_slice(), b"found 1\n1\n").note("4,096 boxes")?;
+    says(&rt, all.as_slice(), b"found 1\n1\n", "4,096 boxes")?;
     let over = boxes(heap, b"", 4097)?;
     assert!(rt; has_too_many(over.as_slice()));
-    says(&rt, over.as_slice(), b"refused 20 at 4096 row 4097\n").note("4,097 boxes")?;
+    says(
+        &rt,
+        over.as_slice(),
+        b"refused 20 at 4096 row 4097\n",
+        "4,097 boxes",
+    )?;
     let headed = boxes(heap, b"name\n", 4096)?;
     assert!(rt; !has_too_many(headed.as_slice()), "a heading is no box");
     let bad = boxes(heap, b"name\n0\n", 4096)?;
-    says(&rt, bad.as_slice(), b"refused 20 at 4096 row 4098\n").note("too many boxes come first")
+    says(
+        &rt,
+        bad.as_slice(),
+        b"refused 20 at 4096 row 4098\n",
+        "too many boxes come first",
+    )
 }

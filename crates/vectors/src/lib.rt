@@ -1,5 +1,6 @@
 //! The worked examples and the limits of rule files and box lists, run through the calls that the programs make.
 #![tactic(auto)]
+
 #[cfg(test)]
 mod box_lists;
 #[cfg(test)]

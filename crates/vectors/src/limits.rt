@@ -20,10 +20,10 @@ fn file(
     Ok(bytes)
 }
 
-fn says(rt: &impl Abort, bytes: &Vec<u8>, expected: &[u8]) -> Result<(), Fail> {
+fn says(rt: &impl Abort, bytes: &Vec<u8>, expected: &[u8], what: &str) -> Result<(), Fail> {
     let mut out = [0; 128];
     let n = set_sheet(bytes.as_slice(), 1_000_000, &mut out)?;
-    assert_eq!(rt; &out[0..n], expected);
+    assert_eq!(rt; &out[0..n], expected, "{what}");
     Ok(())
 }
 
@@ -34,20 +34,20 @@ fn bytes(rt: HostRuntime) -> Result<(), Fail> {
         &rt,
         &file(heap, b"p 0 0\nc", b"-", 65527, b"\n")?,
         b"found 0\n\n",
-    )
-    .note("65,535 bytes")?;
+        "65,535 bytes",
+    )?;
     says(
         &rt,
         &file(heap, b"p 0 0\nc", b"-", 65528, b"\n")?,
         b"refused 10 at 65535 line 2\n",
-    )
-    .note("65,536 bytes")?;
+        "65,536 bytes",
+    )?;
     says(
         &rt,
         &file(heap, b"p 0 0\n", b"x", 70000, b"")?,
         b"refused 10 at 65535 line 2\n",
+        "too many bytes come first",
     )
-    .note("too many bytes come first")
 }
 
 #[test]
@@ -57,32 +57,32 @@ fn header(rt: HostRuntime) -> Result<(), Fail> {
         &rt,
         &file(heap, b"p 4096 1\n{0 0},\n", b"", 0, b"")?,
         b"none 0\n",
-    )
-    .note("4,096 choices")?;
+        "4,096 choices",
+    )?;
     says(
         &rt,
         &file(heap, b"p 4097 1\n{0 0},\n", b"", 0, b"")?,
         b"refused 16 at 2 line 1\n",
-    )
-    .note("4,097 choices")?;
+        "4,097 choices",
+    )?;
     says(
         &rt,
         &file(heap, b"p 1 2048\n", b"1,1\n", 2048, b"")?,
         b"found 1\n1\n",
-    )
-    .note("2,048 rules")?;
+        "2,048 rules",
+    )?;
     says(
         &rt,
         &file(heap, b"p 1 2049\n", b"1,1\n", 2049, b"")?,
         b"refused 16 at 4 line 1\n",
-    )
-    .note("2,049 rules")?;
+        "2,049 rules",
+    )?;
     says(
         &rt,
         &file(heap, b"p 1 2048\n", b"1,1\n", 2047, b"")?,
         b"refused 17 at 8197 line 2049\n",
+        "a rule too few",
     )
-    .note("a rule too few")
 }
 
 #[test]
@@ -92,24 +92,24 @@ fn items(rt: HostRuntime) -> Result<(), Fail> {
         &rt,
         &file(heap, b"p 1 1\n,", b"{0 0}", 1024, b"\n")?,
         b"found 1\n1\n",
-    )
-    .note("1,024 counts")?;
+        "1,024 counts",
+    )?;
     says(
         &rt,
         &file(heap, b"p 1 1\n,", b"{0 0}", 1025, b"\n")?,
         b"refused 16 at 5127 line 2\n",
-    )
-    .note("1,025 counts")?;
+        "1,025 counts",
+    )?;
     says(
         &rt,
         &file(heap, b"p 1 1\n,", b"1 ", 16384, b"\n")?,
         b"found 1\n1\n",
-    )
-    .note("16,384 entries")?;
+        "16,384 entries",
+    )?;
     says(
         &rt,
         &file(heap, b"p 1 1\n,", b"1 ", 16385, b"\n")?,
         b"refused 16 at 32775 line 2\n",
+        "16,385 entries",
     )
-    .note("16,385 entries")
 }
