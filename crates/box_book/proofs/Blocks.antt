@@ -1,13 +1,13 @@
 -- The first open box that clashes with a yes box, over the yes boxes one by one.
 use Rattle.std.proofs.Common.{◌≡◌, ℕ, suc, ◌+◌, ◌<◌, ◌≤◌, Bool, true, false, ◌&&◌, ◌||◌, ◌⊎◌, List, sym, refl, ap, ◌∙◌, subst, inl, inr, add-one, arith}
-use Rattle.std.proofs.lemmas.Bool.{cases_lt, and_parts, and_from, and_right, or_left, or_right}
+use Rattle.std.proofs.lemmas.Bool.{cases_lt, and_right, or_left, or_right}
 use Rattle.book.specs.declared.Mark.{Mark}
 use Rattle.book.specs.Books.{open_mark}
 use Rattle.box_book.specs.declared.NameBox.{NameBox}
 use Rattle.box_book.specs.Causes.{box_at}
 use Rattle.box_book.specs.Places.{first_below}
 use Rattle.box_book.specs.Meaning.{clashes, mark_at}
-use Rattle.box_book.specs.Readings.{is_yes, clashes_at, clashed}
+use Rattle.box_book.specs.Readings.{is_yes, clashed}
 use Rattle.box_book.specs.Runs.{open_clash}
 use Rattle.box_book.specs.Finds.{IsFirst, first_is}
 

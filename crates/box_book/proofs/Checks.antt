@@ -1,5 +1,5 @@
 -- A list is sound if each of its boxes is clean, and the first box that is not has the fault that is told.
-use Rattle.std.proofs.Common.{◌≡◌, ℕ, zero, suc, ◌+◌, ◌<◌, ◌≤◌, ◌⊎◌, List, length, get_or, sym, refl, subst, inl, inr, add-one, arith}
+use Rattle.std.proofs.Common.{◌≡◌, ℕ, zero, suc, ◌+◌, ◌<◌, ◌≤◌, ◌⊎◌, List, length, sym, subst, inl, inr, add-one, arith}
 use Rattle.std.proofs.lemmas.Bool.{cases_order}
 use Rattle.box_book.specs.declared.NameBox.{NameBox}
 use Rattle.box_book.specs.declared.BoxCause.{BoxCause}

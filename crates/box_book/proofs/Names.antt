@@ -1,16 +1,16 @@
 -- The runs of one name each that a sound list is made of.
-use Rattle.std.proofs.Common.{◌≡◌, ℕ, zero, suc, ◌+◌, ◌<◌, ◌≤◌, Bool, true, false, not, ◌&&◌, eqb, ◌⊎◌, List, length, sym, refl, ap, ◌∙◌, subst, inl, inr, arith}
-use Rattle.std.proofs.lemmas.Bool.{cases_lt, cases_eq, both_ways, true≢false, eqb-true, eq-eqb, ne_eqb, and_parts, and_from, and_left, and_right}
+use Rattle.std.proofs.Common.{◌≡◌, ℕ, zero, suc, ◌+◌, ◌<◌, ◌≤◌, true, false, not, eqb, ◌⊎◌, List, length, sym, refl, ap, ◌∙◌, subst, inl, inr, arith}
+use Rattle.std.proofs.lemmas.Bool.{cases_lt, cases_eq, true≢false, eq-eqb, ne_eqb, and_from, and_left, and_right}
 use Rattle.book.specs.declared.Mark.{Mark}
 use Rattle.book.specs.declared.Mark.TheVariants.{Open, Yes, No}
 use Rattle.book.specs.Books.{open_mark}
 use Rattle.box_book.specs.declared.NameBox.{NameBox}
 use Rattle.box_book.specs.Causes.{box_at, Sound}
-use Rattle.box_book.specs.Places.{some_below, first_below}
+use Rattle.box_book.specs.Places.{some_below}
 use Rattle.box_book.specs.Meaning.{mark_at}
 use Rattle.box_book.specs.Readings.{is_no, keeps_at, lost_at, rivals_at, alone_at}
 use Rattle.box_book.specs.Runs.{RunEnd, FirstKept}
-use Rattle.box_book.specs.Finds.{some_from, none_false, IsFirst}
+use Rattle.box_book.specs.Finds.{some_from, none_false}
 
 -- a run ends before s: the names before are below those from s on
 abbrev pub RunsDone : List NameBox → ℕ → Type 0

@@ -1,6 +1,6 @@
 -- The laws of books, for every box list that is not too long.
-use Rattle.std.proofs.Common.{◌≡◌, ℕ, ◌+◌, ◌-◌, ◌<◌, ◌≤◌, Bool, true, false, cond, not, ◌&&◌, ◌||◌, eqb, ltb, ◌⊎◌, List, length, get_or, sym, refl, ap, ◌∙◌, subst, inl, inr, arith}
-use Rattle.std.proofs.lemmas.Bool.{cases_order, cases_eq, both_ways, true≢false, false≢true, not-true, not-false, ltb-true, eqb-true, eq-eqb, ne_eqb, and_parts, and_from, and_cases, or_cases, or_parts, or_left, or_right}
+use Rattle.std.proofs.Common.{◌≡◌, ℕ, ◌+◌, ◌-◌, ◌<◌, ◌≤◌, Bool, true, false, cond, not, ◌&&◌, ◌||◌, eqb, ltb, ◌⊎◌, List, length, sym, refl, ap, ◌∙◌, subst, inl, inr, arith}
+use Rattle.std.proofs.lemmas.Bool.{cases_order, cases_eq, both_ways, true≢false, false≢true, not-true, not-false, ltb-true, eqb-true, eq-eqb, ne_eqb, and_parts, and_from, or_cases, or_parts}
 use Rattle.book.specs.declared.Mark.{Mark}
 use Rattle.book.specs.declared.Mark.TheVariants.{Open, Yes, No}
 use Rattle.book.specs.declared.Answer.{Answer}
@@ -13,7 +13,7 @@ use Rattle.box_book.specs.Causes.{box_at}
 use Rattle.box_book.specs.Places.{some_below, first_below}
 use Rattle.box_book.specs.Meaning.{overlaps, clashes, mark_at, Allowed}
 use Rattle.box_book.specs.Readings.{is_yes, is_no, clashes_at, clashed, crowded_at, crowded, keeps_at, lost_at, lost, blocked_at, rivals_at, alone_at, pressed, boxes_reading}
-use Rattle.box_book.specs.Finds.{some_true, some_from, some_false, none_false, IsFirst, first_is}
+use Rattle.box_book.specs.Finds.{some_true, some_from, some_false, IsFirst, first_is}
 
 -- marks by their tests
 yes_is : (m : Mark) → is_yes m ≡ true → m ≡ Yes

@@ -1,5 +1,5 @@
 -- Tests of the places of a list.
-use Rattle.std.specs.Prelude.{ℕ, zero, suc, Bool, true, false, cond, ◌||◌}
+use Rattle.std.specs.Prelude.{ℕ, zero, suc, Bool, false, cond, ◌||◌}
 
 -- whether some place below n passes
 abbrev pub some_below : (ℕ → Bool) → ℕ → Bool

@@ -3,6 +3,7 @@
 //! Box i of the list, counted from 1, is choice i: yes means that its name sits there. Boxes that overlap, and boxes of one
 //! name, exclude each other, and each name sits somewhere.
 #![tactic(auto)]
+
 ghost use Rattle.std.specs.Prelude.{◌≡◌, ◌<◌, ◌≤◌, length, is_ok, Decides, MatchOption, MatchResult};
 ghost use Rattle.box_book.specs.Places.{some_below, first_below};
 ghost use Rattle.box_book.specs.Meaning.{overlaps, clashes, Allowed};

@@ -1,10 +1,10 @@
 -- The first row that is no clean box has the fault that is told; rows that all are clean boxes have none.
-use Rattle.std.proofs.Common.{◌≡◌, ℕ, zero, suc, ◌<◌, ◌≤◌, ◌⊎◌, List, length, Some, None, Ok, Err, Result, sym, refl, ◌∙◌, subst, inl, inr, arith}
+use Rattle.std.proofs.Common.{◌≡◌, ℕ, zero, suc, ◌<◌, ◌≤◌, ◌⊎◌, List, length, Some, Ok, Err, Result, sym, refl, ◌∙◌, subst, inl, inr, arith}
 use Rattle.std.proofs.lemmas.Bool.{cases_order}
 use Rattle.box_book.specs.declared.NameBox.{NameBox}
 use Rattle.box_book.specs.declared.BoxCause.{BoxCause}
 use Rattle.box_book.specs.declared.BoxCause.TheVariants.{TooMany, Name, Edge, NameFalls}
-use Rattle.box_book.specs.Causes.{box_number, box_at, name_before, NumberFits, EdgesFit, HasCause, Clean, FirstCause}
+use Rattle.box_book.specs.Causes.{box_number, box_at, name_before, NumberFits, EdgesFit, HasCause, Clean}
 use Rattle.box_book.proofs.Checks.{leads}
 use Rattle.box_text.specs.declared.Row.{Row}
 use Rattle.box_text.specs.declared.CellCause.{CellCause}

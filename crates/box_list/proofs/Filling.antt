@@ -1,17 +1,15 @@
 -- The list, filled box by box.
-use Rattle.std.proofs.Common.{◌≡◌, ℕ, zero, suc, ◌+◌, ◌<◌, ◌≤◌, ◌⊎◌, List, length, get_or, take, drop, set, Ok, Err, Result, sym, refl, ap, ◌∙◌, subst, inl, inr, add-one, arith, length-set, get_or-set_other, get_or-set_same, below_more}
+use Rattle.std.proofs.Common.{◌≡◌, ℕ, zero, suc, ◌+◌, ◌<◌, ◌≤◌, List, length, take, drop, set, Ok, Err, Result, sym, refl, ap, ◌∙◌, subst, add-one, arith, length-set, get_or-set_other, get_or-set_same, below_more}
 use Rattle.std.proofs.lemmas.List.{drop-drop, drop-set-lt, get_or-take, length-take-le}
 use Rattle.box_book.specs.declared.NameBox.{NameBox}
 use Rattle.box_book.specs.Causes.{no_box, box_at, name_before, Clean}
 use Rattle.box_book.proofs.Checks.{sound_by}
 use Rattle.box_text.specs.declared.Row.{Row}
 use Rattle.box_text.specs.declared.CellCause.{CellCause}
-use Rattle.box_text.specs.declared.reader.RowReader.{RowReader}
-use Rattle.box_list.specs.Spelling.{box_rows, row_at, Spells, SpellsAll}
-use Rattle.box_list.specs.Lists.{box_of, Judged, Listed}
+use Rattle.box_list.specs.Spelling.{box_rows, row_at, Spells}
+use Rattle.box_list.specs.Lists.{Judged, Listed}
 use Rattle.box_list.proofs.Faults.{Taken, no_fault}
 use Rattle.box_list.proofs.RowCells.{CellsOf}
-use Rattle.box_list.proofs.Taking.{After}
 
 -- a list in which i rows were put, and the name of the last box
 pub record Filled (rows : List (List ℕ)) (old list : List NameBox) (i before : ℕ) : Type 0 where

@@ -1,5 +1,5 @@
 -- What the reading of a text into a list of boxes answers.
-use Rattle.std.specs.Prelude.{◌≡◌, ℕ, ◌+◌, ◌⊎◌, List, length, take, drop, Ok, Err, Option, Result}
+use Rattle.std.specs.Prelude.{◌≡◌, ℕ, ◌+◌, ◌⊎◌, List, length, take, drop, Ok, Err, Result}
 use Rattle.refusal.specs.declared.Refusal.{Refusal}
 use Rattle.box_book.specs.declared.NameBox.{NameBox}
 use Rattle.box_book.specs.declared.BoxCause.{BoxCause}

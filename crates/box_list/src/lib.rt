@@ -3,6 +3,7 @@
 //! A text is read into a list that the caller lends, or refused with the first of its faults. The list has room for as many
 //! boxes as a text may have, so that it is never too short.
 #![tactic(auto)]
+
 ghost use Rattle.std.specs.Prelude.{◌≡◌, ℕ, ◌<◌, ◌≤◌, true, List, ◌++◌, length, IfOk, MatchOption, nat_lt};
 ghost use Rattle.box_list.specs.Spelling.{box_rows};
 ghost use Rattle.box_list.specs.Lists.{row_number, Refused, Read, surplus, told_list, Judged};

@@ -1,8 +1,8 @@
 -- The number of the bytes at a place, one byte after another.
-use Rattle.std.proofs.Common.{◌≡◌, ℕ, ◌+◌, ◌-◌, ◌*◌, ◌<◌, ◌≤◌, Bool, true, false, cond, eqb, leb, ◌⊎◌, List, [], ◌∷◌, length, get_or, drop, Some, None, Option, sym, refl, ap, ◌∙◌, inl, inr, arith}
-use Rattle.std.proofs.lemmas.List.{drop_all, drop_more, at_drop_more, at_drop_all}
-use Rattle.std.proofs.lemmas.Bool.{cases_lt, cases_Bool, eq-eqb, ne_eqb, le-leb, lt-leb}
-use Rattle.box_text.specs.Cells.{digit, past_spaces, at_end, digits_on, digits, in_range, cell_number}
+use Rattle.std.proofs.Common.{◌≡◌, ℕ, ◌+◌, ◌-◌, ◌*◌, ◌<◌, ◌≤◌, true, false, ◌⊎◌, List, [], ◌∷◌, length, get_or, drop, Some, None, sym, refl, ap, ◌∙◌, inl, inr, arith}
+use Rattle.std.proofs.lemmas.List.{drop_all, drop_more, at_drop_more}
+use Rattle.std.proofs.lemmas.Bool.{cases_Bool, eq-eqb, ne_eqb, le-leb, lt-leb}
+use Rattle.box_text.specs.Cells.{digit, past_spaces, at_end, digits_on, digits, in_range}
 
 pub space_on : (i : ℕ) (bs : List ℕ) → i < length bs → get_or bs i 0 ≡ 32 → past_spaces (drop i bs) ≡ past_spaces (drop (i + 1) bs)
 space_on i bs h e = at_drop_more past_spaces bs i 0 h ∙ rw (eq-eqb (get_or bs i 0) 32 e)

@@ -1,6 +1,7 @@
 //! Reads a box list from standard input, and prints where the names go, that they can't all be set, that the allowance is
 //! spent, or why the list is refused.
 #![tactic(auto)]
+
 use box_book::BOX_LIMIT;
 use box_list::has_too_many;
 use refusal::Refusal;

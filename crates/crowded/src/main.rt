@@ -1,5 +1,6 @@
 //! A box list whose names can't all be set, and what the search finds of it.
 #![tactic(auto)]
+
 use anyhow::anyhow;
 use setting::{ALLOWANCE, MOST_OUTPUT, set_boxes};
 use std::fs;

@@ -1,5 +1,5 @@
 -- A job as a book, and its search.
-use Rattle.std.specs.Prelude.{◌≡◌, ℕ, zero, suc, ◌+◌, ◌^◌, ◌≤◌, cond, List, [], ◌∷◌, ◌≢◌}
+use Rattle.std.specs.Prelude.{ℕ, zero, suc, ◌+◌, ◌^◌, ◌≤◌, cond, List, [], ◌∷◌, ◌≢◌}
 use Rattle.book.specs.declared.Mark.{Mark}
 use Rattle.book.specs.declared.Reading.{Reading}
 use Rattle.book.specs.Books.{open_mark}

@@ -1,5 +1,6 @@
 //! A job: a book with the pins and bans that an editor has ordered. It is a book again, over the same choices.
 #![tactic(auto)]
+
 ghost use Rattle.std.specs.Prelude.{◌≡◌, length, IfOk};
 ghost use Rattle.solver.specs.Outcome.{Alike, Means, Searched};
 ghost use Rattle.solver.specs.Tree.{TreeLaws};

@@ -1,6 +1,7 @@
 //! The sheets of the aspps manual of 30 October 2006 that it prints models of. For each it is told whether the book allows
 //! those models, and a near miss that differs from the first model at one choice, and then what the search finds.
 #![tactic(auto)]
+
 ghost use Rattle.std.specs.Prelude.{◌≡◌, length};
 ghost use Rattle.models.specs.Arrangements.{mark_yes, arranged, Tells};
 

@@ -1,5 +1,5 @@
 -- The texts that programs print.
-use Rattle.std.specs.Prelude.{ℕ, List, [], ◌∷◌, ◌++◌, codes, decimal}
+use Rattle.std.specs.Prelude.{ℕ, List, [], ◌++◌, codes, decimal}
 use Rattle.book.specs.declared.Mark.{Mark}
 use Rattle.refusal.specs.declared.Refusal.{Refusal}
 use Rattle.solver.specs.declared.Ending.{Ending}

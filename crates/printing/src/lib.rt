@@ -1,5 +1,6 @@
 //! What the programs print: fixed words and numbers, written into bytes that the caller lends.
 #![tactic(auto)]
+
 ghost use Rattle.std.specs.Prelude.{◌≡◌, ◌++◌, decimal};
 ghost use Rattle.output.specs.Writing.{Wrote};
 ghost use Rattle.printing.specs.Words.{word, second_line, verdict_text, refusal_text, position_text, refusal_text_at};

@@ -3,6 +3,7 @@
 //! A rule speaks up once its items, but for one at most, are decided: broken if nothing is left to keep it, forced if one
 //! open choice alone can. specs/Readings.antt has the reading in full.
 #![tactic(auto)]
+
 ghost use Rattle.std.specs.Prelude.{◌≡◌, ℕ, ◌+◌};
 ghost use Rattle.rules.specs.Rules.{choice as choice-item, count as count-item, mark_at, yeses};
 ghost use Rattle.rules.specs.Storage.{run, choices as choice-items, side_items, rule_of};

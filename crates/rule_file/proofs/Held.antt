@@ -13,7 +13,7 @@ use Rattle.rule_file.specs.declared.fault.Fault.TheVariants.{Line as InLine, Fil
 use Rattle.rule_file.specs.declared.fault.FileCause.{FileCause}
 use Rattle.rule_file.specs.declared.fault.FileCause.TheVariants.{Limit, Rules as RulesCause}
 use Rattle.rule_file.specs.declared.fault.LineCause.TheVariants.{Choice as ChoiceCause, Repeated}
-use Rattle.rule_file.specs.declared.fault.LineFault.TheVariants.{Scan, Line}
+use Rattle.rule_file.specs.declared.fault.LineFault.TheVariants.{Scan}
 use Rattle.rule_file.specs.declared.file.Tally.{Tally}
 use Rattle.rule_file.specs.declared.line.Part.{Part}
 use Rattle.rule_file.specs.declared.line.Part.TheVariants as part

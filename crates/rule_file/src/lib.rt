@@ -1,5 +1,6 @@
 //! Rule files: their form and limits, read part by part, and the first fault of a file that breaks them.
 #![tactic(auto)]
+
 mod fault;
 mod file;
 mod line;

@@ -1,17 +1,17 @@
 -- What the rows mean, read back.
-use Rattle.std.proofs.Common.{◌≡◌, ℕ, suc, ◌+◌, ◌-◌, ◌<◌, ◌≤◌, List, [], ◌∷◌, ◌++◌, length, take, drop, sym, refl, ap, ◌∙◌, subst, append_assoc, add-zero, add_assoc, zero-add, arith, length-append, take_at, drop_at}
+use Rattle.std.proofs.Common.{◌≡◌, ℕ, suc, ◌+◌, ◌-◌, ◌≤◌, List, [], ◌∷◌, ◌++◌, length, take, drop, sym, refl, ap, ◌∙◌, append_assoc, add-zero, arith, length-append, take_at, drop_at}
 use lib.Seq.{sets, sets-eq}
 use Rattle.std.proofs.lemmas.List.{drop-drop}
 use Rattle.rules.specs.declared.CountRow.{CountRow}
 use Rattle.rules.specs.declared.RuleRow.{RuleRow}
 use Rattle.rules.specs.Rules.{Item, choice, count, Rule}
-use Rattle.rules.specs.Storage.{run, choices, items, side_items, rule_of, decode}
+use Rattle.rules.specs.Storage.{run, choices, items, side_items, decode}
 use Rattle.rule_file.specs.Form.{form, item_counts, item_entries, all_counts, all_entries, Within}
 use Rattle.rule_file.specs.declared.line.Part.TheVariants as part
 use Rattle.rule_store.specs.declared.fill.Filler.{Filler}
 use Rattle.rule_store.specs.Filling.{Store, put_part, fills, unfilled}
 use Rattle.rule_store.specs.Storing.{Full}
-use Rattle.rule_store.proofs.Placing.{flat, count_row, count_rows, all_flat, past_body, past_head, all_rows, counts_past_body, counts_past_head, rule_row, rule_rows, rules_put, after_rules, rules_laid}
+use Rattle.rule_store.proofs.Placing.{flat, count_rows, all_flat, past_body, past_head, all_rows, counts_past_body, counts_past_head, rule_row, rule_rows, rules_put, after_rules, rules_laid}
 
 -- what stands from a place on, and what stands after it
 run_is : {A : Type 0} (xs mid post : List A) (a b : ℕ) → drop a xs ≡ mid ++ post → b ≡ a + length mid → run a b xs ≡ mid

@@ -1,5 +1,5 @@
 -- Where the entries and rows of a file's rules stand once its parts are put into the storage.
-use Rattle.std.proofs.Common.{◌≡◌, ℕ, suc, ◌+◌, ◌≤◌, List, [], ◌∷◌, ◌++◌, length, set, sym, refl, ap, ◌∙◌, subst, append_assoc, append-nil, add-zero, add_assoc, add-suc, suc-add, add-one, arith, length-append}
+use Rattle.std.proofs.Common.{◌≡◌, ℕ, suc, ◌+◌, List, [], ◌∷◌, ◌++◌, length, set, sym, refl, ap, ◌∙◌, subst, append_assoc, add-zero, add-suc, suc-add, add-one, arith, length-append}
 use lib.Seq.{sets}
 use Rattle.rules.specs.declared.CountRow.{CountRow}
 use Rattle.rules.specs.declared.RuleRow.{RuleRow}
@@ -7,8 +7,7 @@ use Rattle.rules.specs.Rules.{Item, choice, count, Rule}
 use Rattle.rule_file.specs.declared.file.Tally.{Tally}
 use Rattle.rule_file.specs.declared.line.Part.{Part}
 use Rattle.rule_file.specs.declared.line.Part.TheVariants as part
-use Rattle.rule_file.specs.Form.{member_parts, item_parts, items_parts, rule_parts, rules_parts}
-use Rattle.rule_store.specs.declared.fill.Filler.{Filler}
+use Rattle.rule_file.specs.Form.{member_parts, items_parts, rules_parts}
 use Rattle.rule_store.specs.Filling.{Store, put_part, fills, side_from, side_to, rule_to}
 
 -- the entries of items, and the rows of their counts, where their first entry stands at e

@@ -1,5 +1,6 @@
 //! The reading of a rule file into storage that the caller lends.
 #![tactic(auto)]
+
 ghost use Rattle.rule_store.specs.Storing.{Read};
 
 mod fill;

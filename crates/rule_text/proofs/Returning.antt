@@ -1,5 +1,5 @@
 -- The book read back is equal to the first.
-use Rattle.std.proofs.Common.{length, sym, ◌∙◌}
+use Rattle.std.proofs.Common.{length, ◌∙◌}
 use Rattle.rule_file.proofs.Spelling.{spelled_once}
 use Rattle.rule_text.specs.Back.{BooksReturn}
 use Rattle.rule_text.specs.Writing.{writing}

@@ -1,6 +1,5 @@
 -- What the rows of storage mean.
 use Rattle.std.specs.Prelude.{List, [], ◌∷◌, ◌++◌, ℕ, ◌-◌, take, drop}
-use Rattle.rules.specs.declared.Span.{Span}
 use Rattle.rules.specs.declared.CountRow.{CountRow}
 use Rattle.rules.specs.declared.Side.{Side}
 use Rattle.rules.specs.declared.RuleRow.{RuleRow}

@@ -1,5 +1,6 @@
 //! A sheet set from start to finish: from the bytes of a rule file, or the text of a box list, to the lines that are printed.
 #![tactic(auto)]
+
 ghost use Rattle.std.specs.Prelude.{◌≤◌, length, IfOk};
 ghost use Rattle.setting.specs.Sheets.{SearchPrinted, SheetPrinted};
 ghost use Rattle.setting.specs.Boxes.{BoxesPrinted};

@@ -1,6 +1,7 @@
 //! Reads a rule file from standard input, and prints where the names go, that they can't all be set, that the allowance
 //! is spent, or why the file is refused.
 #![tactic(auto)]
+
 ghost use Rattle.std.specs.Prelude.{◌≤◌, length, IfOk};
 
 use refusal::Refusal;

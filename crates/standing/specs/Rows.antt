@@ -1,5 +1,5 @@
 -- What the tables hold.
-use Rattle.std.specs.Prelude.{List, [], map, take}
+use Rattle.std.specs.Prelude.{List, map, take}
 use Rattle.book.specs.declared.Mark.{Mark}
 use Rattle.standing.specs.declared.Member.{Member}
 use Rattle.standing.specs.declared.bans.Ban.{Ban}

@@ -1,4 +1,4 @@
-use Rattle.std.proofs.Common.{◌≡◌, ℕ, ◌<◌, length, sym, subst, arith, rules}
+use Rattle.std.proofs.Common.{◌<◌, length, subst, arith, rules}
 use Rattle.box_book.specs.Readings.{lost_at}
 use Rattle.box_book.specs.Runs.{FirstKept}
 use Rattle.box_book.specs.Finds.{some_found, some_none, upto}

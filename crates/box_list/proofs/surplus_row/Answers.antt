@@ -1,5 +1,4 @@
 use Rattle.std.proofs.Common.{arith}
-use Rattle.box_text.specs.Text.{rows_of, headings}
 use Rattle.box_list.specs.Spelling.{box_rows}
 use Rattle.box_list.proofs.Taking.{more, after_more, after_all}
 use Rattle.box_list.proofs.surplus_row.Goals as goal

@@ -1,6 +1,5 @@
 use Rattle.std.proofs.Common.{true, false, sym, ap, ◌∙◌}
 use Rattle.book.specs.Books.{open_mark}
-use Rattle.rules.specs.Rules.{mark_at}
 use Rattle.rule_book.proofs.Steps.{first_more, first_all}
 use Rattle.rule_book.proofs.force_first.Goals as goal
 

@@ -1,4 +1,4 @@
-use Rattle.std.proofs.Common.{◌≡◌, ℕ, ◌-◌, List, take, sym, ap, ◌∙◌, subst, arith}
+use Rattle.std.proofs.Common.{◌≡◌, ℕ, ◌-◌, List, take, ap, ◌∙◌, subst, arith}
 use Rattle.book.specs.declared.size.SheetSize.{SheetSize}
 use Rattle.printing.specs.Output.{Printed}
 use Rattle.printing.specs.Words.{refusal_text}

@@ -1,4 +1,4 @@
-use Rattle.std.proofs.Common.{◌≡◌, ℕ, Bool, true, false, cond, not, List, length, replicate, refl, sym, ap, ◌∙◌, inl, inr, arith}
+use Rattle.std.proofs.Common.{◌≡◌, ℕ, true, false, not, List, length, replicate, refl, sym, ap, ◌∙◌, inl, inr, arith}
 use Rattle.book.specs.declared.Mark.TheVariants.{Open}
 use denote.Enum.Bare.{sameb}
 use Rattle.solver.specs.contracts.Ending.{the_type}

@@ -1,4 +1,4 @@
-use Rattle.std.proofs.Common.{◌≡◌, ℕ, ◌+◌, ◌-◌, ◌*◌, ◌<◌, ◌≤◌, true, List, length, get_or, drop, sym, ap, ◌∙◌, arith}
+use Rattle.std.proofs.Common.{◌≡◌, ℕ, ◌+◌, ◌-◌, ◌*◌, ◌<◌, true, List, length, get_or, drop, sym, ap, ◌∙◌, arith}
 use Rattle.box_text.specs.Cells.{digit, digits, digits_on, in_range, at_end, past_spaces}
 use Rattle.box_text.proofs.CellSteps.{first_digit, first_other, first_none, digit_on, digit_off, digit_end, more_after, none_after, small, too_large}
 use Rattle.box_text.proofs.cells.cell_number.Goals as goal
