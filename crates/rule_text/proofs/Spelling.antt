@@ -1,6 +1,6 @@
 -- What is written reads back.
 use Rattle.std.proofs.Common.{◌≡◌, ℕ, ◌+◌, ◌-◌, ◌*◌, ◌/◌, ◌%◌, ◌<◌, ◌≤◌, ◌≢◌, List, [], ◌∷◌, ◌++◌, length, codes, decimal, sym, refl, ap, ◌∙◌, subst, append_assoc, append-nil, arith}
-use Rattle.std.specs.List.{AllByRecursion as All}
+use Rattle.std.specs.List.{AllByRecursion}
 use Rattle.std.proofs.lemmas.Fmt.{decimal_by_steps}
 use Rattle.std.proofs.ByRecursion.{All-append, All-weaker}
 use Rattle.scan.specs.Text.{First, IsDigit, NoDigit, InOneLine, value, Mark, an_opening, a_closing, a_comma, Spells, nothing, space, mark, digits, SpellsLine, headed, unheaded, ReadsFrom, file_end, whole_line}
@@ -20,7 +20,7 @@ value_more v (x ∷ t) b = value_more (v * 10 + (x - 48)) t b
 
 -- digits of that value, at least one
 abbrev Numeral : ℕ → List ℕ → Type 0
-Numeral n ds = (d : ℕ) × (t : List ℕ) × (ds ≡ d ∷ t) × All IsDigit (d ∷ t) × (value 0 (d ∷ t) ≡ n)
+Numeral n ds = (d : ℕ) × (t : List ℕ) × (ds ≡ d ∷ t) × AllByRecursion IsDigit (d ∷ t) × (value 0 (d ∷ t) ≡ n)
 
 numeral : (n : ℕ) → Small n → Numeral n (decimal n)
 numeral n h = decimal_by_steps Numeral one_digit one_more n h
@@ -177,7 +177,7 @@ items_words (i ∷ is) = item_words i ++ items_words is
 abbrev rule_words : Rule → List Word
 rule_words r = items_words r.body ++ (comma ∷ items_words r.head)
 
-numbers_tell : (cs : List ℕ) → All Small cs → AllTell (numerals cs) (numbers cs)
+numbers_tell : (cs : List ℕ) → AllByRecursion Small cs → AllTell (numerals cs) (numbers cs)
 numbers_tell [] h = tt
 numbers_tell (c ∷ cs) h = (number_tells c h.0, numbers_tell cs h.1)
 
@@ -194,7 +194,7 @@ item_tells (count k m cs) h = (
   ),
 )
 
-items_tell : (is : List Item) → All SmallItem is → AllTell (items_tokens is) (items_words is)
+items_tell : (is : List Item) → AllByRecursion SmallItem is → AllTell (items_tokens is) (items_words is)
 items_tell [] h = tt
 items_tell (i ∷ is) h = tell_append (item_tokens i) (items_tokens is) (item_words i) (items_words is) (item_tells i h.0) (items_tell is h.1)
 
@@ -223,7 +223,7 @@ rule_form r ps =
     ap (λ (z : List Word). items_words r.body ++ (comma ∷ z)) (items_form r.head (part.RuleEnd ∷ ps)) ∙
     sym (append_assoc (items_words r.body) (comma ∷ items_words r.head) (feed ∷ all_written ps)))
 
-rules_read : (rs : List Rule) → All SmallRule rs → (i : ℕ) → ReadAs i (rule_lines rs) (all_written (rules_parts rs (part.End ∷ [])))
+rules_read : (rs : List Rule) → AllByRecursion SmallRule rs → (i : ℕ) → ReadAs i (rule_lines rs) (all_written (rules_parts rs (part.End ∷ [])))
 rules_read [] h i = ((i, end) ∷ [], file_end i, refl)
 rules_read (r ∷ rs) h i =
     let k = tokens_read i (rule_tokens r) (rule_words r) (rule_lines rs) (all_written (rules_parts rs (part.End ∷ []))) (rule_tells r h.0) (λ j. rules_read rs h.1 j) in
@@ -235,7 +235,7 @@ reads_back n rs hn hm h = header_reads 0 n (length rs) (rule_lines rs) (all_writ
 
 -- Within the limits all numbers are small.
 
-choices_small : (n : ℕ) (cs : List ℕ) → n ≤ 4096 → AllChoices n cs → All Small cs
+choices_small : (n : ℕ) (cs : List ℕ) → n ≤ 4096 → AllChoices n cs → AllByRecursion Small cs
 choices_small n [] s h = tt
 choices_small n (c ∷ cs) s h = (omega (arith, h.0.1), choices_small n cs s h.1)
 
@@ -243,11 +243,11 @@ item_small : (n : ℕ) (i : Item) → n ≤ 4096 → GoodItem n i → SmallItem 
 item_small n (choice c) s h = omega (arith, h.1)
 item_small n (count k m cs) s h = (omega (arith, h.0), omega (arith, h.1), choices_small n cs s h.2)
 
-items_small : (n : ℕ) (is : List Item) → n ≤ 4096 → GoodItems n is → All SmallItem is
+items_small : (n : ℕ) (is : List Item) → n ≤ 4096 → GoodItems n is → AllByRecursion SmallItem is
 items_small n [] s h = tt
 items_small n (i ∷ is) s h = (item_small n i s h.0, items_small n is s h.1)
 
-rules_small : (n : ℕ) (rs : List Rule) → n ≤ 4096 → GoodRules n rs → All SmallRule rs
+rules_small : (n : ℕ) (rs : List Rule) → n ≤ 4096 → GoodRules n rs → AllByRecursion SmallRule rs
 rules_small n [] s h = tt
 rules_small n (r ∷ rs) s h = ((items_small n r.body s h.0, items_small n r.head s h.1), rules_small n rs s h.2)
 

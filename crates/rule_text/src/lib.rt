@@ -5,7 +5,7 @@
 #![tactic(auto)]
 
 ghost use Rattle.std.specs.Prelude.{length, OnOk};
-ghost use Rattle.std.specs.List.{AllByRecursion as All};
+ghost use Rattle.std.specs.List.{AllByRecursion};
 ghost use Rattle.output.specs.Writing.{Wrote};
 ghost use Rattle.rules.specs.Rules.{count as count-item};
 ghost use Rattle.rules.specs.Storage.{side_items, rule_of, decode};
@@ -110,7 +110,7 @@ fn put_side(
     side: Side,
 ) -> Option<usize>
     ensures text { Wrote out.old start (all_padded spacing (items_tokens (side_items counts.now entries.now side))) out.new result }
-    ensures small { IfSomeThen result (All SmallItem (side_items counts.now entries.now side)) }
+    ensures small { IfSomeThen result (AllByRecursion SmallItem (side_items counts.now entries.now side)) }
 {
     let rows = part(counts, side.counts);
     let mut at = start;
@@ -168,7 +168,7 @@ fn put_rules(
     entries: &[u16],
 ) -> Option<usize>
     ensures text { Wrote out.old 0 (writing size (decode rules.now counts.now entries.now)) out.new result }
-    ensures small { IfSomeThen result (All SmallRule (decode rules.now counts.now entries.now)) }
+    ensures small { IfSomeThen result (AllByRecursion SmallRule (decode rules.now counts.now entries.now)) }
 {
     let mut at = put_header(out, size, rules.len())?;
     for row in rules {

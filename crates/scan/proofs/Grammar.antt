@@ -1,6 +1,6 @@
 -- The grammar of rule files reads every file, as its words, and in one way.
 use Rattle.std.proofs.Common.{◌≡◌, ℕ, suc, ◌+◌, ◌-◌, ◌*◌, ◌≢◌, ◌⊎◌, List, [], ◌∷◌, ◌++◌, length, sym, refl, ap, ◌∙◌, subst, inl, inr, append_assoc, append-nil, zero-add, arith, length-append}
-use Rattle.std.specs.List.{AllByRecursion as All}
+use Rattle.std.specs.List.{AllByRecursion}
 use Rattle.std.proofs.ByRecursion.{All-push}
 use Rattle.std.proofs.lemmas.Bool.{cases_eq, ne_eqb}
 use Rattle.scan.specs.declared.ByteKind.{ByteKind}
@@ -43,7 +43,7 @@ number_in : (i d : ℕ) (bs : List ℕ) → IsDigit d → words in_line i (d ∷
 unfolding words
 number_in i d bs x = rw (digit_kind d x) (ap (λ (z : ℕ). words (in_number i z) (i + 1) bs) (sym (zero-add (d - 48))))
 
-number_run : (ds bs : List ℕ) (p v i : ℕ) → All IsDigit ds → words (in_number p v) i (ds ++ bs) ≡ words (in_number p (value v ds)) (i + length ds) bs
+number_run : (ds bs : List ℕ) (p v i : ℕ) → AllByRecursion IsDigit ds → words (in_number p v) i (ds ++ bs) ≡ words (in_number p (value v ds)) (i + length ds) bs
 unfolding words
 number_run [] bs p v i a = let q : i + 0 ≡ i = omega arith in rw q
 number_run (d ∷ ds) bs p v i a =
@@ -169,7 +169,7 @@ SomeSpelling i t = (ws : List Placed) × Spells i t ws
 -- by themselves and after digits
 abbrev Spelled : ℕ → List ℕ → Type 0
 Spelled i t =
-    SomeSpelling i t × ((p d : ℕ) (ds : List ℕ) → All IsDigit (d ∷ ds) → i ≡ p + length (d ∷ ds) → SomeSpelling p (d ∷ (ds ++ t)))
+    SomeSpelling i t × ((p d : ℕ) (ds : List ℕ) → AllByRecursion IsDigit (d ∷ ds) → i ≡ p + length (d ∷ ds) → SomeSpelling p (d ∷ (ds ++ t)))
 
 after_digits : (i b : ℕ) (t : List ℕ) → NoDigit b → SomeSpelling i (b ∷ t) → Spelled i (b ∷ t)
 after_digits i b t n s = (s, λ p d ds a e. (_, digits p d ds (b ∷ t) s.0 a n (subst (λ (z : ℕ). Spells z (b ∷ t) s.0) e s.1)))

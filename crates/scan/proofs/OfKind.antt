@@ -1,6 +1,6 @@
 -- What a byte's kind says of the byte.
 use Rattle.std.proofs.Common.{◌≡◌, ℕ, ◌-◌, ◌≤◌, Bool, true, false, cond, eqb, ◌≢◌, [], ◌∷◌, refl, ap, subst, arith}
-use Rattle.std.specs.List.{AllByRecursion as All}
+use Rattle.std.specs.List.{AllByRecursion}
 use Rattle.std.proofs.lemmas.Bool.{leb-true, le-leb, eqb-true, eqb-false, ne_eqb, and_parts, and_from, both_ways}
 use Rattle.scan.specs.declared.ByteKind.{ByteKind}
 use Rattle.scan.specs.declared.ByteKind.TheVariants.{Digit, Space, Feed, Open, Close, Comma, Header, Comment, Other}
@@ -30,7 +30,7 @@ Kinded b Close = b ≡ 125
 Kinded b Comma = b ≡ 44
 Kinded b Header = b ≡ 112
 Kinded b Comment = b ≡ 99
-Kinded b Other = NoDigit b × All (λ c. b ≢ c) (10 ∷ 32 ∷ 44 ∷ 99 ∷ 112 ∷ 123 ∷ 125 ∷ [])
+Kinded b Other = NoDigit b × AllByRecursion (λ c. b ≢ c) (10 ∷ 32 ∷ 44 ∷ 99 ∷ 112 ∷ 123 ∷ 125 ∷ [])
 
 pub kinded : (b : ℕ) → Kinded b (kind b)
 kinded b = at (digit b) (eqb b 32) (eqb b 10) (eqb b 123) (eqb b 125) (eqb b 44) (eqb b 112) (eqb b 99) refl refl refl refl refl refl refl refl

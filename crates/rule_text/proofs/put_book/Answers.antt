@@ -1,5 +1,5 @@
 use Rattle.std.proofs.Common.{◌≡◌, List, length, sym, ap, ◌∙◌, subst, arith}
-use Rattle.std.specs.List.{AllByRecursion as All}
+use Rattle.std.specs.List.{AllByRecursion}
 use Rattle.output.proofs.Pieces.{same_text}
 use Rattle.rules.specs.Rules.{Rule}
 use Rattle.rules.specs.Storage.{decode}
@@ -18,5 +18,5 @@ returns c =
     let many : Small (length (rules_of c.args.book.now)) = omega (arith, ap length same ∙ length_decode c.rules.result.now c.counts.result.now c.entries.result.now) in
     record {
       text = same_text whole c.put_rules.ensures.text;
-      spelled = if_some_then c.put_rules.result (λ h. reads_back (size_of c.args.book.now) (rules_of c.args.book.now) (omega (arith, c.args.book.now.size.small)) many (subst (λ (rs : List Rule). All SmallRule rs) (sym same) h)) c.put_rules.ensures.small;
+      spelled = if_some_then c.put_rules.result (λ h. reads_back (size_of c.args.book.now) (rules_of c.args.book.now) (omega (arith, c.args.book.now.size.small)) many (subst (λ (rs : List Rule). AllByRecursion SmallRule rs) (sym same) h)) c.put_rules.ensures.small;
     }

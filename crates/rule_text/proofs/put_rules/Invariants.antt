@@ -1,5 +1,5 @@
 use Rattle.std.proofs.Common.{drop}
-use Rattle.std.specs.List.{AllByRecursion as All}
+use Rattle.std.specs.List.{AllByRecursion}
 use Rattle.output.proofs.Pieces.{Onward}
 use Rattle.rules.specs.Storage.{decode}
 use Rattle.rule_text.specs.Writing.{rule_lines}
@@ -9,4 +9,4 @@ use Rattle.rule_text.proofs.put_rules.Given as goal
 abbrev pub invariant-loop-row : goal.invariant-loop-row
 invariant-loop-row l =
     Onward l.initial.out l.initial.at (rule_lines (decode l.rules l.counts l.entries)) l.out l.at (rule_lines (decode (drop l.row-index l.rules) l.counts l.entries))
-    × (All SmallRule (decode (drop l.row-index l.rules) l.counts l.entries) → All SmallRule (decode l.rules l.counts l.entries))
+    × (AllByRecursion SmallRule (decode (drop l.row-index l.rules) l.counts l.entries) → AllByRecursion SmallRule (decode l.rules l.counts l.entries))

@@ -1,5 +1,5 @@
 use Rattle.std.proofs.Common.{List, sym, refl, ap, subst}
-use Rattle.std.specs.List.{AllByRecursion as All}
+use Rattle.std.specs.List.{AllByRecursion}
 use Rattle.output.proofs.Pieces.{same_text, onward, onward_cut, onward_same}
 use Rattle.rules.specs.declared.CountRow.{CountRow}
 use Rattle.rules.specs.Storage.{items}
@@ -37,8 +37,8 @@ pub returns : goal.returns
 returns c =
     let text = rest_text c.args.spacing c.args.entries.now c.loop-row.from c.args.side.entries.end c.part-rows.result.now c.loop-row.row-index c.part-2.result.now c.loop-row-test.false c.part-2.ensures in
     let whole = ap (λ (ks : List CountRow). all_padded c.args.spacing (items_tokens (items c.args.entries.now c.args.side.entries.start c.args.side.entries.end ks))) (sym c.part-rows.ensures) in
-    let small : All SmallItem (items c.args.entries.now c.args.side.entries.start c.args.side.entries.end c.part-rows.result.now) = c.loop-row.invariant.1 (rest_small c.args.entries.now c.loop-row.from c.args.side.entries.end c.part-rows.result.now c.loop-row.row-index c.loop-row-test.false c.type_inv.entries) in
+    let small : AllByRecursion SmallItem (items c.args.entries.now c.args.side.entries.start c.args.side.entries.end c.part-rows.result.now) = c.loop-row.invariant.1 (rest_small c.args.entries.now c.loop-row.from c.args.side.entries.end c.part-rows.result.now c.loop-row.row-index c.loop-row-test.false c.type_inv.entries) in
     record {
       text = same_text whole (onward_same c.loop-row.invariant.0 text _ _ c.put_choices-2.ensures);
-      small = if_some c.put_choices-2.result (subst (λ (ks : List CountRow). All SmallItem (items c.args.entries.now c.args.side.entries.start c.args.side.entries.end ks)) c.part-rows.ensures small);
+      small = if_some c.put_choices-2.result (subst (λ (ks : List CountRow). AllByRecursion SmallItem (items c.args.entries.now c.args.side.entries.start c.args.side.entries.end ks)) c.part-rows.ensures small);
     }
