@@ -25,7 +25,7 @@ at_yes first i ms h e =
 
 -- a mark that is not yes adds nothing
 pub at_other : (first : Bool) (i : ℕ) (ms : List Mark) → i < length ms → (get_or ms i Open ≡ Yes → ⊥) → ahead first i ms ≡ ahead first (i + 1) ms
-at_other first i ms h no-yes = ap (λ (r : List ℕ). r ++ (10 ∷ [])) (step first i ms h ∙ by (get_or ms i Open) no-yes ∙ ap (λ (k : ℕ). spaced first (yes_choices k (drop (i + 1) ms))) (sym (add-one (i + 1))))
+at_other first i ms h no_yes = ap (λ (r : List ℕ). r ++ (10 ∷ [])) (step first i ms h ∙ by (get_or ms i Open) no_yes ∙ ap (λ (k : ℕ). spaced first (yes_choices k (drop (i + 1) ms))) (sym (add-one (i + 1))))
   where
     by : (m : Mark) → (m ≡ Yes → ⊥) → spaced first (yes_choices (i + 1) (m ∷ drop (i + 1) ms)) ≡ spaced first (yes_choices (suc (i + 1)) (drop (i + 1) ms))
     by Open f = refl

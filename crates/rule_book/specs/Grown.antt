@@ -11,7 +11,7 @@ use Rattle.rules.specs.Rules.{Item, choice, count, mark_at, is_yes, yeses, both,
 use Rattle.rule_book.specs.declared.Status.{Status}
 use Rattle.rule_book.specs.declared.Status.TheVariants.{Sure, Lost, Unsure}
 use Rattle.rule_book.specs.Readings.{mark_status, opens, count_status, status, first_open}
-use Rattle.rule_book.specs.Marks.{get_d_any, mark_at_none}
+use Rattle.rule_book.specs.Marks.{get_or_any, mark_at_none}
 
 -- a choice that is not open keeps its mark
 abbrev pub Grows : List Mark → List Mark → Type 0
@@ -21,7 +21,7 @@ pub grows : (ms a : List Mark) → Extends ms a → Grows ms a
 grows ms a x zero v e = e
 grows ms a x (suc k) v e =
     elim (cases_lt k (length ms)) [
-      | inl h ↦ get_d_any a k No Open (omega (arith, x.0)) ∙ x.1 k v (get_d_any ms k Open No h ∙ e)
+      | inl h ↦ get_or_any a k No Open (omega (arith, x.0)) ∙ x.1 k v (get_or_any ms k Open No h ∙ e)
       | inr h ↦ sym (mark_at_none a (suc k) (λ p. omega (arith, x.0))) ∙ mark_at_none ms (suc k) (λ p. omega arith) ∙ e
     ]
 

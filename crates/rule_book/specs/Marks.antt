@@ -10,14 +10,14 @@ use Rattle.rules.specs.Rules.{mark_at}
 pub no_open : No ≡ Open → ⊥
 no_open e = let z : ◌≡◌ {A = ℕ} 0 1 = cc in omega arith
 
-pub get_d_any : (ms : List Mark) (k : ℕ) (d e : Mark) → k < length ms → get_or ms k d ≡ get_or ms k e
-get_d_any [] k d e h = absurd (omega arith)
-get_d_any (m ∷ ms) zero d e h = refl
-get_d_any (m ∷ ms) (suc k) d e h = get_d_any ms k d e (omega arith)
+pub get_or_any : (ms : List Mark) (k : ℕ) (d e : Mark) → k < length ms → get_or ms k d ≡ get_or ms k e
+get_or_any [] k d e h = absurd (omega arith)
+get_or_any (m ∷ ms) zero d e h = refl
+get_or_any (m ∷ ms) (suc k) d e h = get_or_any ms k d e (omega arith)
 
 pub mark_at_in : (ms : List Mark) (c : ℕ) → 0 < c → c ≤ length ms → get_or ms (c - 1) Open ≡ mark_at ms c
 mark_at_in ms zero h l = absurd (omega arith)
-mark_at_in ms (suc k) h l = let e : suc k - 1 ≡ k = omega arith in rw e (get_d_any ms k Open No (omega arith))
+mark_at_in ms (suc k) h l = let e : suc k - 1 ≡ k = omega arith in rw e (get_or_any ms k Open No (omega arith))
 
 pub mark_at_none : (ms : List Mark) (c : ℕ) → (0 < c → length ms < c) → No ≡ mark_at ms c
 mark_at_none ms zero h = refl
@@ -31,4 +31,4 @@ open_in ms (suc k) e = elim (cases_lt k (length ms)) [ inl h ↦ (omega arith, o
 -- nothing is open where all is settled
 pub settled_at : (ms : List Mark) → Settled ms → (c : ℕ) → mark_at ms c ≡ Open → ⊥
 settled_at ms s zero e = no_open e
-settled_at ms s (suc k) e = let i = open_in ms (suc k) e in s k (omega (arith, i.1)) (get_d_any ms k Open No (omega (arith, i.1)) ∙ e)
+settled_at ms s (suc k) e = let i = open_in ms (suc k) e in s k (omega (arith, i.1)) (get_or_any ms k Open No (omega (arith, i.1)) ∙ e)

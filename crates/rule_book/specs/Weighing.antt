@@ -1,4 +1,4 @@
--- A rule's reading item by item: how the code finds it. That this is `rule_reading` is proved in proofs/Fold.antt.
+-- A rule's reading item by item: how the code finds it. That this is `rule_reading` is proved in Fold.antt.
 use Rattle.std.specs.Prelude.{List, [], ◌∷◌}
 use Rattle.book.specs.declared.Mark.{Mark}
 use Rattle.book.specs.declared.Answer.{Answer}

@@ -5,8 +5,8 @@
 #![tactic(auto)]
 
 ghost use Rattle.std.specs.Prelude.{◌≡◌, ℕ, ◌+◌};
-ghost use Rattle.rules.specs.Rules.{choice as choice-item, count as count-item, mark_at, yeses};
-ghost use Rattle.rules.specs.Storage.{run, choices as choice-items, side_items, rule_of};
+ghost use Rattle.rules.specs.Rules.{choice as choice_item, count as count_item, mark_at, yeses};
+ghost use Rattle.rules.specs.Storage.{run, choices as choice_items, side_items, rule_of};
 ghost use Rattle.rule_book.specs.Readings.{opens, count_status, first_open, count_pressed, rule_reading, rules_reading};
 ghost use Rattle.rule_book.specs.Weighing.{answer_of, weigh, weigh_item};
 ghost use Rattle.rule_book.specs.Laws.{rule_laws};
@@ -145,7 +145,7 @@ fn press_count(row: CountRow, tally: Tally, marks: &[Mark], choices: &[u16]) -> 
 /// The reading of a rule as far as this choice, where `before` is its reading as far as the item before: broken while no
 /// item is unsure, forced with a single one, and quiet as soon as nothing can follow any more.
 fn weigh_choice(role: Role, choice: u16, marks: &[Mark], before: Reading) -> Reading
-    ensures { result ≡ weigh_item role marks.now (choice-item choice) before }
+    ensures { result ≡ weigh_item role marks.now (choice_item choice) before }
 {
     match (role, mark_at(marks, choice)) {
         (Role::Body, Mark::Yes) | (Role::Head, Mark::No) => before,
@@ -165,7 +165,7 @@ fn weigh_count(
     marks: &[Mark],
     before: Reading,
 ) -> Reading
-    ensures { result ≡ weigh_item role marks.now (count-item row.lower row.upper choices.now) before }
+    ensures { result ≡ weigh_item role marks.now (count_item row.lower row.upper choices.now) before }
 {
     let tally = Tally::of(marks, choices);
     match (role, tally.status(row.lower, row.upper)) {
@@ -180,7 +180,7 @@ fn weigh_count(
 
 /// The reading of a rule as far as the last of these choices, each of them an item.
 fn weigh_choices(role: Role, choices: &[u16], marks: &[Mark], before: Reading) -> Reading
-    ensures { result ≡ weigh role marks.now (choice-items choices.now) before }
+    ensures { result ≡ weigh role marks.now (choice_items choices.now) before }
 {
     let mut reading = before;
     for choice in choices {

@@ -1,6 +1,6 @@
 -- The form as walks from state to state.
 use Rattle.std.proofs.Common.{◌≡◌, ℕ, Bool, true, false, List, [], ◌∷◌, ◌++◌, Some, None, sym, refl, ap, ◌∙◌, subst}
-use Rattle.rules.specs.Rules.{Item, choice as choice-item, count as count-item, Rule}
+use Rattle.rules.specs.Rules.{Item, choice as choice_item, count as count_item, Rule}
 use Rattle.scan.specs.declared.Token.{Token}
 use Rattle.scan.specs.declared.Token.TheVariants as tok
 use Rattle.scan.specs.Scans.{word_of, final}
@@ -200,8 +200,8 @@ members_walk h (c ∷ cs) w = on (member h c) (members_walk h cs w)
 
 items_walk : (h : Half) (is : List Item) {z : List Part} {u : State} → Walk (state.Items h) z u → Walk (state.Items h) (items_parts is z) u
 items_walk h [] w = w
-items_walk h (choice-item c ∷ is) w = on (choice h c) (items_walk h is w)
-items_walk h (count-item k m cs ∷ is) w =
+items_walk h (choice_item c ∷ is) w = on (choice h c) (items_walk h is w)
+items_walk h (count_item k m cs ∷ is) w =
     on (count_open h) (on (lower h k) (on (upper h m) (members_walk h cs (on (count_close h) (items_walk h is w)))))
 
 rules_walk : (rs : List Rule) {z : List Part} {u : State} → Walk state.Between z u → Walk state.Between (rules_parts rs z) u
@@ -244,8 +244,8 @@ step_tail ps (rules m) t = (m, t.0, after (part.Rules m) t.1)
 step_tail ps header_end t = (t.0, after part.HeaderEnd t.1)
 step_tail ps rule_line t = (record { body = t.0; head = t.1 } ∷ t.2, after part.RuleLine t.3)
 step_tail ps file_end t = ([], after part.End t)
-step_tail ps (choice h c) t = item_tail h (choice-item c) ps (part.Choice c ∷ ps) refl t
-step_tail ps (count_open h) t = item_tail h (count-item t.0 t.1 t.2) t.3 (part.CountOpen ∷ ps) (after part.CountOpen t.4) t.5
+step_tail ps (choice h c) t = item_tail h (choice_item c) ps (part.Choice c ∷ ps) refl t
+step_tail ps (count_open h) t = item_tail h (count_item t.0 t.1 t.2) t.3 (part.CountOpen ∷ ps) (after part.CountOpen t.4) t.5
 step_tail ps (lower h k) t = (k, t.0, t.1, t.2, after (part.Lower k) t.3, t.4)
 step_tail ps (upper h m) t = (m, t.0, t.1, after (part.Upper m) t.2, t.3)
 step_tail ps (member h c) t = (c ∷ t.0, t.1, after (part.Member c) t.2, t.3)

@@ -7,7 +7,7 @@
 ghost use Rattle.std.specs.Prelude.{length, OnOk};
 ghost use Rattle.std.specs.List.{AllByRecursion};
 ghost use Rattle.output.specs.Writing.{Wrote};
-ghost use Rattle.rules.specs.Rules.{count as count-item};
+ghost use Rattle.rules.specs.Rules.{count as count_item};
 ghost use Rattle.rules.specs.Storage.{side_items, rule_of, decode};
 ghost use Rattle.rule_book.specs.Meaning.{rules_of, size_of};
 ghost use Rattle.rule_file.specs.Form.{SpellsFile};
@@ -90,7 +90,7 @@ fn put_count(
     row: CountRow,
     choices: &[u16],
 ) -> Option<usize>
-    ensures text { Wrote out.old at (all_padded spacing (item_tokens (count-item row.lower row.upper choices.now))) out.new result }
+    ensures text { Wrote out.old at (all_padded spacing (item_tokens (count_item row.lower row.upper choices.now))) out.new result }
     ensures small { IfSomeThen result (Small row.lower × Small row.upper) }
 {
     let at = put_spaced(out, at, spacing, Token::Open)?;

@@ -1,5 +1,5 @@
 ghost use Rattle.std.specs.Prelude.{◌≡◌, true, false, length, if◌then◌else◌, nat_lt, slice_index_or};
-ghost use Rattle.book.specs.declared.Mark.TheVariants.{Open as OpenMark, Yes as YesMark, No as NoMark, Open, Yes, No};
+ghost use Rattle.book.specs.declared.Mark.TheVariants.{Open as OpenMark, Yes as YesMark, No as NoMark};
 ghost use Rattle.book.specs.declared.Reading.TheVariants.{Broken as BrokenReading, Quiet as QuietReading};
 ghost use Rattle.book.specs.Books.{Settled};
 ghost use Rattle.solver.specs.Tree.{first_open};
@@ -27,7 +27,7 @@ impl Book for SecondNo {
 
     ghost reads = { λ b ms. (if nat_lt (first_open ms) (length ms) then QuietReading else (if (elim (slice_index_or ms 1 OpenMark) [ OpenMark ↦ false | YesMark ↦ false | NoMark ↦ b.lenient ]) then QuietReading else BrokenReading)) };
 
-    ghost lawful = { λ b. silent_laws 2 (λ ms. elim (slice_index_or ms 1 Open) [ Open ↦ false | Yes ↦ false | No ↦ b.lenient ]) (omega arith) };
+    ghost lawful = { λ b. silent_laws 2 (λ ms. elim (slice_index_or ms 1 OpenMark) [ OpenMark ↦ false | YesMark ↦ false | NoMark ↦ b.lenient ]) (omega arith) };
 
     fn kind_number(&self) -> u16 {
         Self::KIND
