@@ -81,15 +81,6 @@ fn put_verdict(out: &mut [u8], verdict: Verdict, marks: &[Mark]) -> Option<usize
     put_second_line(out, at, verdict.ending, marks)
 }
 
-fn put_refusal(out: &mut [u8], refusal: Refusal, line: usize) -> Option<usize>
-    ensures { Wrote out.old 0 (refusal_text refusal line) out.new result }
-{
-    let at = put_labelled(out, 0, b"refused ", refusal.number as u64)?;
-    let at = put_labelled(out, at, b" at ", refusal.place as u64)?;
-    let at = put_labelled(out, at, b" line ", line as u64)?;
-    put(out, at, b"\n")
-}
-
 fn put_position(out: &mut [u8], at: usize, position: Position) -> Option<usize>
     ensures { Wrote out.old at (position_text position) out.new result }
 {
@@ -106,6 +97,12 @@ fn put_refusal_at(out: &mut [u8], refusal: Refusal, position: Position) -> Optio
     let at = put_labelled(out, at, b" at ", refusal.place as u64)?;
     let at = put_position(out, at, position)?;
     put(out, at, b"\n")
+}
+
+fn put_refusal(out: &mut [u8], refusal: Refusal, line: usize) -> Option<usize>
+    ensures { Wrote out.old 0 (refusal_text refusal line) out.new result }
+{
+    put_refusal_at(out, refusal, Position::Line(line))
 }
 
 const TOO_SHORT: JobFault = JobFault {

@@ -13,7 +13,7 @@ use Rattle.solver.specs.Outcome.{Says, Ran, MarksAfter, Finished, Means}
 use Rattle.solver.specs.Tree.{opens, Explores, FirstOf, TreeLaws}
 use Rattle.solver.specs.Marks.{never_open, get_or_new, opens_new}
 use Rattle.solver.proofs.Counts.{few, single}
-use Rattle.solver.specs.Meaning.{first_of, explored}
+use Rattle.solver.proofs.Meaning.{first_of, explored}
 
 -- an ending says what the search comes to
 none_of : (t a : ℕ) (o : Option (List Mark)) (v : Verdict) → Says t o a v → v.ending ≡ NoneAllowed → o ≡ None

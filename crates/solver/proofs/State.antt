@@ -11,8 +11,8 @@ use Rattle.solver.specs.declared.trail.Step.{Step}
 use Rattle.solver.specs.Steps.{entry_of, place_of, trail_of, Held, Unwinds}
 use Rattle.solver.specs.Tree.{first_open, opens}
 use Rattle.solver.specs.Marks.{opens_set, opens_new, first_is, not_open}
-use Rattle.solver.specs.Runs.{Run, tick, explore, rest, forced_rest, trial_rest, found_rest, broken_rest, turned_rest, none_rest}
-use Rattle.solver.specs.Trails.{step, trail_push, held_push, held_count, length_trail}
+use Rattle.solver.proofs.Runs.{Run, tick, explore, rest, forced_rest, trial_rest, found_rest, broken_rest, turned_rest, none_rest}
+use Rattle.solver.proofs.Trails.{step, trail_push, held_push, held_count, length_trail}
 
 -- the whole search
 abbrev pub whole : (List Mark → Reading) → ℕ → Run

@@ -13,7 +13,7 @@ use Rattle.solver.specs.Outcome.{Says, Ran}
 use Rattle.solver.specs.Steps.{trail_of, Unwinds}
 use Rattle.solver.specs.Tree.{first_open, Explores}
 use Rattle.solver.specs.Marks.{opens_new}
-use Rattle.solver.specs.Meaning.{explored}
+use Rattle.solver.proofs.Meaning.{explored}
 use Rattle.solver.proofs.State.{State, whole, state_found, state_spent, state_none}
 
 abbrev verdict : Ending → ℕ → Verdict

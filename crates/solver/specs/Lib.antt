@@ -3,6 +3,3 @@ pub mod Outcome
 pub mod Steps
 pub mod Silent
 pub mod Marks
-pub mod Meaning
-pub mod Runs
-pub mod Trails

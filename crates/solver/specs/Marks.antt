@@ -7,7 +7,7 @@ use Rattle.book.specs.declared.Answer.{Answer}
 use Rattle.book.specs.declared.Answer.TheVariants.{Yes as AnswerYes, No as AnswerNo}
 use Rattle.book.specs.declared.Mark.{Mark}
 use Rattle.book.specs.declared.Mark.TheVariants.{Open, Yes, No}
-use Rattle.book.specs.Books.{mark_of, open_mark}
+use Rattle.book.specs.Books.{mark_of, open_mark, Extends, Settled}
 use Rattle.solver.specs.Tree.{first_open, opens}
 
 more : (b : Bool) (m n : ℕ) → m ≡ suc n → cond b (suc m) m ≡ suc (cond b (suc n) n)
@@ -68,3 +68,22 @@ pub get_or_new : (n k : ℕ) → slice_index_or (replicate n Open) k Open ≡ Op
 get_or_new zero k = refl
 get_or_new (suc n) zero = refl
 get_or_new (suc n) (suc k) = get_or_new n k
+
+-- a mark that is not open is that of an answer
+pub answer_of : (m : Mark) → (m ≢ Open) → (v : Answer) × (m ≡ mark_of v)
+answer_of Open h = absurd (h refl)
+answer_of Yes h = (AnswerYes, refl)
+answer_of No h = (AnswerNo, refl)
+
+same_list : (xs ys : List Mark) → length xs ≡ length ys → ((k : ℕ) → k < length xs → slice_index_or xs k Open ≡ slice_index_or ys k Open) → xs ≡ ys
+same_list [] [] l h = refl
+same_list [] (y ∷ ys) l h = absurd (omega arith)
+same_list (x ∷ xs) [] l h = absurd (omega arith)
+same_list (x ∷ xs) (y ∷ ys) l h =
+    let a : x ≡ y = h 0 (omega arith) in
+    let b : xs ≡ ys = same_list xs ys (omega arith) (λ k q. h (suc k) (omega arith)) in
+    cc
+
+-- marks with none open are extended only by themselves
+pub only_itself : (ms b : List Mark) → Settled ms → Extends ms b → ms ≡ b
+only_itself ms b s x = same_list ms b (sym x.0) (λ k q. let v = answer_of (slice_index_or ms k Open) (s k q) in v.1 ∙ sym (x.1 k v.0 v.1))

@@ -8,8 +8,7 @@ use Rattle.book.specs.declared.Reading.{Reading}
 use Rattle.book.specs.declared.Reading.TheVariants.{Broken, Quiet, Forced}
 use Rattle.book.specs.Books.{Laws, Settled}
 use Rattle.solver.specs.Tree.{first_open}
-use Rattle.solver.specs.Marks.{before_first, settled_first}
-use Rattle.solver.specs.Meaning.{only_itself}
+use Rattle.solver.specs.Marks.{before_first, settled_first, only_itself}
 
 abbrev silent : (List Mark → Bool) → List Mark → Reading
 silent ok ms = cond (nat_lt (first_open ms) (length ms)) Quiet (cond (ok ms) Quiet Broken)

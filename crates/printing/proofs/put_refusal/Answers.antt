@@ -1,22 +1,16 @@
-use Rattle.output.proofs.Pieces.{and_then, cut}
-use Rattle.printing.specs.Words.{refusal_text}
+use Rattle.std.proofs.Common.{◌≡◌, ℕ, List, ◌++◌, ap, sym, append_assoc}
+use Rattle.std.specs.Prelude.{codes, decimal}
+use Rattle.output.proofs.Pieces.{same_text}
+use Rattle.printing.specs.declared.Position.TheVariants.{Line}
+use Rattle.printing.specs.Words.{refusal_text, refusal_text_at}
+use Rattle.refusal.specs.declared.Refusal.{Refusal}
 use Rattle.printing.proofs.put_refusal.Goals as goal
 
-pub returns-in_err-at : goal.returns-in_err-at
-unfolding refusal_text
-returns-in_err-at c = rw c.from_residual.ensures (cut _ _ c.in_err-at.ensures)
-
-pub returns-in_err-at-2 : goal.returns-in_err-at-2
-unfolding refusal_text
-returns-in_err-at-2 c =
-    rw c.from_residual-in_err-at-2.ensures (and_then c.in_ok-at.ensures (cut _ _ c.in_err-at-2.ensures))
-
-pub returns-in_err-at-3 : goal.returns-in_err-at-3
-unfolding refusal_text
-returns-in_err-at-3 c =
-    rw c.from_residual-in_err-at-3.ensures (and_then c.in_ok-at.ensures (and_then c.in_ok-at-2.ensures (cut _ _ c.in_err-at-3.ensures)))
+-- a refusal with a line is one with a position, which is that line
+at_line : (r : Refusal) (line : ℕ) → refusal_text r line ≡ refusal_text_at r (Line line)
+unfolding refusal_text refusal_text_at
+at_line r line =
+    ap (λ (t : List ℕ). codes "refused " ++ (decimal r.number ++ (codes " at " ++ (decimal r.place ++ t)))) (sym (append_assoc (codes " line ") (decimal line) (codes "\n")))
 
 pub returns : goal.returns
-unfolding refusal_text
-returns c =
-    and_then c.in_ok-at.ensures (and_then c.in_ok-at-2.ensures (and_then c.in_ok-at-3.ensures c.put.ensures.text))
+returns c = same_text (at_line c.args.refusal c.args.line) c.put_refusal_at.ensures

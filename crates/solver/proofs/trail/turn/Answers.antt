@@ -3,7 +3,7 @@ use Rattle.book.specs.declared.Mark.{Mark}
 use Rattle.book.specs.declared.Mark.TheVariants.{No}
 use Rattle.solver.specs.declared.trail.Step.{Step}
 use Rattle.solver.specs.Steps.{trail_of, Unwinds}
-use Rattle.solver.specs.Trails.{step, trail_pop, trail_push, held_pop, unwind_here, unwind_on}
+use Rattle.solver.proofs.Trails.{step, trail_pop, trail_push, held_pop, unwind_here, unwind_on}
 use Rattle.solver.proofs.trail.turn.Goals as goal
 
 pub place-requires : goal.place-requires

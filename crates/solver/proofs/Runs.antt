@@ -13,7 +13,7 @@ use Rattle.solver.specs.declared.trail.Step.{Step}
 use Rattle.solver.specs.Steps.{place_of, trail_of, Held, Unwinds}
 use Rattle.solver.specs.Tree.{first_open, opens}
 use Rattle.solver.specs.Marks.{opens_set, opens_unset, opens_keep, first_is, not_open, set_back}
-use Rattle.solver.specs.Trails.{step}
+use Rattle.solver.proofs.Trails.{step}
 
 pub record Run : Type 0 where
   pub trials : ℕ

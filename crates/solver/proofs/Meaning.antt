@@ -1,5 +1,5 @@
 -- The tree of readings of a lawful book: every search of it has an end, which is true of the book.
-use Rattle.std.specs.Prelude.{◌≡◌, ℕ, zero, suc, ◌+◌, ◌-◌, ◌<◌, Bool, true, false, cond, ◌⊎◌, List, [], ◌∷◌, length, get_or, Some, None, Option, ◌≢◌, nat_lt, slice_index_or, slice_set}
+use Rattle.std.specs.Prelude.{◌≡◌, ℕ, zero, suc, ◌+◌, ◌-◌, ◌<◌, Bool, true, false, cond, ◌⊎◌, List, length, get_or, Some, None, Option, ◌≢◌, nat_lt, slice_index_or, slice_set}
 use Rattle.std.proofs.Math.Path.{refl}
 use Rattle.std.proofs.Common.{sym, ◌∙◌, ap, subst, inl, inr, zero-add, arith, ltb-true, ltb-false, length-set, get_or-set_same, get_or-set_other}
 use Rattle.std.proofs.lemmas.Bool.{cases_eq}
@@ -11,13 +11,8 @@ use Rattle.book.specs.declared.Reading.{Reading}
 use Rattle.book.specs.declared.Reading.TheVariants.{Broken, Quiet, Forced}
 use Rattle.book.specs.Books.{mark_of, open_mark, Laws, Extends, Settled}
 use Rattle.solver.specs.Tree.{first_open, opens, Explores, broken, settled, forced, yes_side, no_side, FirstOf}
-use Rattle.solver.specs.Marks.{first_is, before_first, never_open, not_open, opens_set}
-use Rattle.solver.specs.Runs.{Run, tick, after_of, by_reading, branch, ended, explore}
-
-answer_of : (m : Mark) → (m ≢ Open) → (v : Answer) × (m ≡ mark_of v)
-answer_of Open h = absurd (h refl)
-answer_of Yes h = (AnswerYes, refl)
-answer_of No h = (AnswerNo, refl)
+use Rattle.solver.specs.Marks.{first_is, before_first, never_open, not_open, opens_set, answer_of, only_itself}
+use Rattle.solver.proofs.Runs.{Run, tick, after_of, by_reading, branch, ended, explore}
 
 ext_on : (ms b : List Mark) (i : ℕ) (v : Answer) → i < length ms → Extends ms b → slice_index_or b i Open ≡ mark_of v → Extends (slice_set ms i (mark_of v)) b
 ext_on ms b i v h x e = (x.0 ∙ sym (length-set ms i (mark_of v)), λ k w q. at k w q (cases_eq k i))
@@ -32,19 +27,6 @@ ext_off ms b i m o x = (x.0 ∙ length-set ms i m, λ k w q. at k w q (cases_eq 
     at : (k : ℕ) (w : Answer) → slice_index_or ms k Open ≡ mark_of w → (k ≡ i) ⊎ (k ≢ i) → slice_index_or b k Open ≡ mark_of w
     at k w q (inl s) = absurd (never_open w (sym q ∙ ap (λ j. get_or ms j Open) s ∙ o))
     at k w q (inr s) = x.1 k w (get_or-set_other ms i k m Open s ∙ q)
-
-same_list : (xs ys : List Mark) → length xs ≡ length ys → ((k : ℕ) → k < length xs → slice_index_or xs k Open ≡ slice_index_or ys k Open) → xs ≡ ys
-same_list [] [] l h = refl
-same_list [] (y ∷ ys) l h = absurd (omega arith)
-same_list (x ∷ xs) [] l h = absurd (omega arith)
-same_list (x ∷ xs) (y ∷ ys) l h =
-    let a : x ≡ y = h 0 (omega arith) in
-    let b : xs ≡ ys = same_list xs ys (omega arith) (λ k q. h (suc k) (omega arith)) in
-    cc
-
--- marks with none open are extended only by themselves
-pub only_itself : (ms b : List Mark) → Settled ms → Extends ms b → ms ≡ b
-only_itself ms b s x = same_list ms b (sym x.0) (λ k q. let v = answer_of (slice_index_or ms k Open) (s k q) in v.1 ∙ sym (x.1 k v.0 v.1))
 
 module _ (n : ℕ) (allows : List Mark → Type 0) (reads : List Mark → Reading) (laws : Laws n allows reads) where
   -- an allowed arrangement has an answer at each choice
