@@ -1,7 +1,7 @@
 -- The grammar of rule files reads every file, as its words, and in one way.
 use Rattle.std.proofs.Common.{◌≡◌, ℕ, suc, ◌+◌, ◌-◌, ◌*◌, ◌≢◌, ◌⊎◌, List, [], ◌∷◌, ◌++◌, length, sym, refl, ap, ◌∙◌, subst, inl, inr, append_assoc, append-nil, zero-add, arith, length-append}
-use Rattle.std.specs.List.{AllByRecursion}
-use Rattle.std.proofs.ByRecursion.{All-push}
+use Rattle.std.specs.List.{All}
+use Rattle.std.proofs.lemmas.List.Elements.{All-head, All-tail, All-cons, All-nil, All-push}
 use Rattle.std.proofs.lemmas.Bool.{cases_eq, ne_eqb}
 use Rattle.scan.specs.declared.ByteKind.{ByteKind}
 use Rattle.scan.specs.declared.ByteKind.TheVariants.{Digit, Space, Feed, Open, Close, Comma, Header, Comment, Other}
@@ -22,16 +22,16 @@ mark_in i bs an_opening = refl
 mark_in i bs a_closing = refl
 mark_in i bs a_comma = refl
 mark_in i bs a_stray = refl
-mark_in i bs (an_unknown b d (feed', (space', (comma', (header', (open', (close', _))))))) = at (kind b) (kinded b)
+mark_in i bs (an_unknown b d other) = at (kind b) (kinded b)
   where
     at : (k : ByteKind) → Kinded b k → step k i b stray bs ≡ (i, unknown) ∷ words in_line (i + 1) bs
     at Digit x = absurd (d x)
-    at Space x = absurd (space' x)
-    at Feed x = absurd (feed' x)
-    at Open x = absurd (open' x)
-    at Close x = absurd (close' x)
-    at Comma x = absurd (comma' x)
-    at Header x = absurd (header' x)
+    at Space x = absurd (other 1 0 (omega arith) x)
+    at Feed x = absurd (other 0 0 (omega arith) x)
+    at Open x = absurd (other 4 0 (omega arith) x)
+    at Close x = absurd (other 5 0 (omega arith) x)
+    at Comma x = absurd (other 2 0 (omega arith) x)
+    at Header x = absurd (other 3 0 (omega arith) x)
     at Comment x = refl
     at Other x = refl
 
@@ -43,11 +43,11 @@ number_in : (i d : ℕ) (bs : List ℕ) → IsDigit d → words in_line i (d ∷
 unfolding words
 number_in i d bs x = rw (digit_kind d x) (ap (λ (z : ℕ). words (in_number i z) (i + 1) bs) (sym (zero-add (d - 48))))
 
-number_run : (ds bs : List ℕ) (p v i : ℕ) → AllByRecursion IsDigit ds → words (in_number p v) i (ds ++ bs) ≡ words (in_number p (value v ds)) (i + length ds) bs
+number_run : (ds bs : List ℕ) (p v i : ℕ) → All IsDigit ds → words (in_number p v) i (ds ++ bs) ≡ words (in_number p (value v ds)) (i + length ds) bs
 unfolding words
 number_run [] bs p v i a = let q : i + 0 ≡ i = omega arith in rw q
 number_run (d ∷ ds) bs p v i a =
-    let q : i + suc (length ds) ≡ i + 1 + length ds = omega arith in rw (q, is_digit d a.0) (number_run ds bs p (v * 10 + (d - 48)) (i + 1) a.1)
+    let q : i + suc (length ds) ≡ i + 1 + length ds = omega arith in rw (q, is_digit d (All-head IsDigit d ds a)) (number_run ds bs p (v * 10 + (d - 48)) (i + 1) (All-tail IsDigit d ds a))
 
 number_out : (bs : List ℕ) (p v i : ℕ) → First NoDigit bs → words (in_number p v) i bs ≡ (p, number v) ∷ words in_line i bs
 unfolding words
@@ -70,8 +70,8 @@ spelled_are_words (mark i b w t ws m s) bs n =
     mark_in i (t ++ bs) m ∙ ap (λ (z : List Placed). (i, w) ∷ z) (spelled_are_words s bs n ∙ ap (λ (z : List Placed). ws ++ z) (in_line_at bs (omega arith)))
 spelled_are_words (digits i d ds t ws a f s) bs n =
     let v : ℕ = value 0 (d ∷ ds) in
-    number_in i d ((ds ++ t) ++ bs) a.0 ∙ ap (words (in_number i (0 * 10 + (d - 48))) (i + 1)) (append_assoc ds t bs) ∙
-    number_run ds (t ++ bs) i (0 * 10 + (d - 48)) (i + 1) a.1 ∙ number_out (t ++ bs) i v (i + 1 + length ds) (first_append NoDigit t bs f n) ∙
+    number_in i d ((ds ++ t) ++ bs) (All-head IsDigit d ds a) ∙ ap (words (in_number i (0 * 10 + (d - 48))) (i + 1)) (append_assoc ds t bs) ∙
+    number_run ds (t ++ bs) i (0 * 10 + (d - 48)) (i + 1) (All-tail IsDigit d ds a) ∙ number_out (t ++ bs) i v (i + 1 + length ds) (first_append NoDigit t bs f n) ∙
     ap (λ (z : List Placed). (i, number v) ∷ z)
     (in_line_at (t ++ bs) (omega arith) ∙ spelled_are_words s bs n ∙ ap (λ (z : List Placed). ws ++ z) (in_line_at bs (omega (arith, length-append ds t))))
 
@@ -130,10 +130,14 @@ comment_in : (i : ℕ) (bs : List ℕ) → words line_start i (99 ∷ bs) ≡ wo
 unfolding words
 comment_in i bs = refl
 
+-- a byte within one line
+abbrev NoFeed : ℕ → Type 0
+NoFeed b = b ≢ 10
+
 comment_run : (t bs : List ℕ) (i : ℕ) → InOneLine t → words in_comment i (t ++ bs) ≡ words in_comment (i + length t) bs
 unfolding words
 comment_run [] bs i o = let q : i + 0 ≡ i = omega arith in rw q
-comment_run (b ∷ t) bs i o = let q : i + suc (length t) ≡ i + 1 + length t = omega arith in rw (q, ne_eqb b 10 o.0) (comment_run t bs (i + 1) o.1)
+comment_run (b ∷ t) bs i o = let q : i + suc (length t) ≡ i + 1 + length t = omega arith in rw (q, ne_eqb b 10 (All-head NoFeed b t o)) (comment_run t bs (i + 1) (All-tail NoFeed b t o))
 
 comment_out : (i : ℕ) (bs : List ℕ) → words in_comment i (10 ∷ bs) ≡ words line_start (i + 1) bs
 unfolding words
@@ -169,7 +173,7 @@ SomeSpelling i t = (ws : List Placed) × Spells i t ws
 -- by themselves and after digits
 abbrev Spelled : ℕ → List ℕ → Type 0
 Spelled i t =
-    SomeSpelling i t × ((p d : ℕ) (ds : List ℕ) → AllByRecursion IsDigit (d ∷ ds) → i ≡ p + length (d ∷ ds) → SomeSpelling p (d ∷ (ds ++ t)))
+    SomeSpelling i t × ((p d : ℕ) (ds : List ℕ) → All IsDigit (d ∷ ds) → i ≡ p + length (d ∷ ds) → SomeSpelling p (d ∷ (ds ++ t)))
 
 after_digits : (i b : ℕ) (t : List ℕ) → NoDigit b → SomeSpelling i (b ∷ t) → Spelled i (b ∷ t)
 after_digits i b t n s = (s, λ p d ds a e. (_, digits p d ds (b ∷ t) s.0 a n (subst (λ (z : ℕ). Spells z (b ∷ t) s.0) e s.1)))
@@ -177,12 +181,20 @@ after_digits i b t n s = (s, λ p d ds a e. (_, digits p d ds (b ∷ t) s.0 a n 
 marked : (i b : ℕ) (w : Word) (t : List ℕ) → NoDigit b → Mark b w → Spelled (i + 1) t → Spelled i (b ∷ t)
 marked i b w t n m s = after_digits i b t n (_, mark i b w t s.0.0 m s.0.1)
 
+other_marks : (b : ℕ) → b ≢ 10 → b ≢ 32 → b ≢ 44 → b ≢ 112 → b ≢ 123 → b ≢ 125 → NoDigit b → Mark b unknown
+other_marks b feed' space' comma' header' open' close' n =
+    let P : ℕ → Type 0 = λ c. b ≢ c in
+    an_unknown b n
+    (All-cons P 10 (32 ∷ 44 ∷ 112 ∷ 123 ∷ 125 ∷ []) feed' (All-cons P 32 (44 ∷ 112 ∷ 123 ∷ 125 ∷ []) space' (
+    All-cons P 44 (112 ∷ 123 ∷ 125 ∷ []) comma' (All-cons P 112 (123 ∷ 125 ∷ []) header' (All-cons P 123 (125 ∷ []) open' (
+    All-cons P 125 [] close' (All-nil P)))))))
+
 one_more : (k : ByteKind) (i b : ℕ) (t : List ℕ) → Kinded b k → b ≢ 10 → Spelled (i + 1) t → Spelled i (b ∷ t)
 one_more Digit i b t x o s = (
-  s.1 i b [] (x, tt) refl,
+  s.1 i b [] (All-cons IsDigit b [] x (All-nil IsDigit)) refl,
   λ p d ds a e.
       let l : i + 1 ≡ p + length (d ∷ (ds ++ (b ∷ []))) = omega (arith, length-append ds (b ∷ [])) in
-      subst (λ (z : List ℕ). SomeSpelling p (d ∷ z)) (append_assoc ds (b ∷ []) t) (s.1 p d (ds ++ (b ∷ [])) (a.0, All-push IsDigit ds b a.1 x) l),
+      subst (λ (z : List ℕ). SomeSpelling p (d ∷ z)) (append_assoc ds (b ∷ []) t) (s.1 p d (ds ++ (b ∷ [])) (All-push IsDigit (d ∷ ds) b a x) l),
 )
 one_more Space i b t x o s =
     after_digits i b t (λ d. omega (arith, d.0)) (subst (λ (z : ℕ). SomeSpelling i (z ∷ t)) (sym x) (_, space i t s.0.0 s.0.1))
@@ -193,13 +205,14 @@ one_more Comma i b t x o s = marked i b comma t (λ d. omega (arith, d.0)) (subs
 one_more Header i b t x o s = marked i b stray t (λ d. omega (arith, d.1)) (subst (λ (z : ℕ). Mark z stray) (sym x) a_stray) s
 one_more Comment i b t x o s =
     let n : NoDigit b = λ d. omega (arith, d.1) in
-    marked i b unknown t n (an_unknown b n (o, ((λ e. omega arith), ((λ e. omega arith), ((λ e. omega arith), ((λ e. omega arith), ((λ e. omega arith), tt))))))) s
-one_more Other i b t (n, (feed', (space', (comma', (comment', (header', (open', (close', _)))))))) o s =
-    marked i b unknown t n (an_unknown b n (feed', (space', (comma', (header', (open', (close', tt))))))) s
+    marked i b unknown t n (other_marks b o (λ e. omega arith) (λ e. omega arith) (λ e. omega arith) (λ e. omega arith) (λ e. omega arith) n) s
+one_more Other i b t (n, a) o s =
+    marked i b unknown t n
+    (other_marks b (a 0 0 (omega arith)) (a 1 0 (omega arith)) (a 2 0 (omega arith)) (a 4 0 (omega arith)) (a 5 0 (omega arith)) (a 6 0 (omega arith)) n) s
 
 spelled : (t : List ℕ) (i : ℕ) → InOneLine t → Spelled i t
 spelled [] i o = (([], nothing i), λ p d ds a e. (_, digits p d ds [] [] a tt (nothing (p + length (d ∷ ds)))))
-spelled (b ∷ t) i o = one_more (kind b) i b t (kinded b) o.0 (spelled t (i + 1) o.1)
+spelled (b ∷ t) i o = one_more (kind b) i b t (kinded b) (All-head NoFeed b t o) (spelled t (i + 1) (All-tail NoFeed b t o))
 
 line_spelled : (t : List ℕ) (i : ℕ) → InOneLine t → First (λ b. b ≢ 99) t → (ws : List Placed) × SpellsLine i t ws
 line_spelled [] i o n = ([], unheaded i [] [] tt tt (nothing i))
@@ -207,7 +220,7 @@ line_spelled (b ∷ t) i o n = at (cases_eq b 112)
   where
     at : (b ≡ 112) ⊎ (b ≡ 112 → ⊥) → (ws : List Placed) × SpellsLine i (b ∷ t) ws
     at (inl e) =
-        let s = (spelled t (i + 1) o.1).0 in
+        let s = (spelled t (i + 1) (All-tail NoFeed b t o)).0 in
         subst (λ (z : ℕ). (ws : List Placed) × SpellsLine i (z ∷ t) ws) (sym e) (_, headed i t s.0 s.1)
     at (inr h) = let s = (spelled (b ∷ t) i o).0 in (s.0, unheaded i (b ∷ t) s.0 h n s.1)
 
@@ -228,7 +241,7 @@ whole_read t bs i o n r =
 
 feed_more : (bs : List ℕ) → Read bs → Read (10 ∷ bs)
 feed_more bs r = (
-  (λ i. whole_read [] bs i tt tt r),
+  (λ i. whole_read [] bs i (All-nil NoFeed) tt r),
   (λ i t o. let q = r.0 (i + length (99 ∷ t) + 1) in (q.0, comment i t bs q.0 o q.1)),
   (λ i b t o n. whole_read (b ∷ t) bs i o n r),
 )
@@ -236,13 +249,13 @@ feed_more bs r = (
 byte_more : (c : ℕ) (bs : List ℕ) → c ≢ 10 → Read bs → Read (c ∷ bs)
 byte_more c bs n r = (
   (λ i. at (cases_eq c 99) i),
-  (λ i t o. subst (λ (z : List ℕ). SomeReading i (99 ∷ z)) (append_assoc t (c ∷ []) bs) (r.1 i (t ++ (c ∷ [])) (All-push (λ b. b ≢ 10) t c o n))),
-  (λ i b t o m. subst (λ (z : List ℕ). SomeReading i (b ∷ z)) (append_assoc t (c ∷ []) bs) (r.2 i b (t ++ (c ∷ [])) (o.0, All-push (λ b. b ≢ 10) t c o.1 n) m)),
+  (λ i t o. subst (λ (z : List ℕ). SomeReading i (99 ∷ z)) (append_assoc t (c ∷ []) bs) (r.1 i (t ++ (c ∷ [])) (All-push NoFeed t c o n))),
+  (λ i b t o m. subst (λ (z : List ℕ). SomeReading i (b ∷ z)) (append_assoc t (c ∷ []) bs) (r.2 i b (t ++ (c ∷ [])) (All-push NoFeed (b ∷ t) c o n) m)),
 )
   where
     at : (c ≡ 99) ⊎ (c ≡ 99 → ⊥) → (i : ℕ) → SomeReading i (c ∷ bs)
-    at (inl e) i = subst (λ (z : ℕ). SomeReading i (z ∷ bs)) (sym e) (r.1 i [] tt)
-    at (inr m) i = r.2 i c [] (n, tt) m
+    at (inl e) i = subst (λ (z : ℕ). SomeReading i (z ∷ bs)) (sym e) (r.1 i [] (All-nil NoFeed))
+    at (inr m) i = r.2 i c [] (All-cons NoFeed c [] n (All-nil NoFeed)) m
 
 read : (bs : List ℕ) → Read bs
 read [] = (

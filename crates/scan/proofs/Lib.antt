@@ -1,4 +1,3 @@
 pub mod OfKind
 pub mod Steps
 pub mod Grammar
-pub mod Callers

@@ -1,7 +1,8 @@
 -- What a byte's kind says of the byte.
-use Rattle.std.proofs.Common.{◌≡◌, ℕ, ◌-◌, ◌≤◌, Bool, true, false, cond, eqb, ◌≢◌, [], ◌∷◌, refl, ap, subst, arith}
-use Rattle.std.specs.List.{AllByRecursion}
-use Rattle.std.proofs.lemmas.Bool.{leb-true, le-leb, eqb-true, eqb-false, ne_eqb, and_parts, and_from, both_ways}
+use Rattle.std.proofs.Common.{◌≡◌, ℕ, Bool, true, false, cond, eqb, ◌≢◌, [], ◌∷◌, refl, subst}
+use Rattle.std.specs.List.{All}
+use Rattle.std.proofs.lemmas.List.Elements.{All-cons, All-nil}
+use Rattle.std.proofs.lemmas.Bool.{leb-true, le-leb, eqb-true, eqb-false, and_parts, and_from, both_ways}
 use Rattle.scan.specs.declared.ByteKind.{ByteKind}
 use Rattle.scan.specs.declared.ByteKind.TheVariants.{Digit, Space, Feed, Open, Close, Comma, Header, Comment, Other}
 use Rattle.scan.specs.Bytes.{digit, kind}
@@ -30,7 +31,7 @@ Kinded b Close = b ≡ 125
 Kinded b Comma = b ≡ 44
 Kinded b Header = b ≡ 112
 Kinded b Comment = b ≡ 99
-Kinded b Other = NoDigit b × AllByRecursion (λ c. b ≢ c) (10 ∷ 32 ∷ 44 ∷ 99 ∷ 112 ∷ 123 ∷ 125 ∷ [])
+Kinded b Other = NoDigit b × All (λ c. b ≢ c) (10 ∷ 32 ∷ 44 ∷ 99 ∷ 112 ∷ 123 ∷ 125 ∷ [])
 
 pub kinded : (b : ℕ) → Kinded b (kind b)
 kinded b = at (digit b) (eqb b 32) (eqb b 10) (eqb b 123) (eqb b 125) (eqb b 44) (eqb b 112) (eqb b 99) refl refl refl refl refl refl refl refl
@@ -46,23 +47,16 @@ kinded b = at (digit b) (eqb b 32) (eqb b 10) (eqb b 123) (eqb b 125) (eqb b 44)
     at false false false false false true h k d' s' f' o' c' m' h' k' = eqb-true b 44 m'
     at false false false false false false true k d' s' f' o' c' m' h' k' = eqb-true b 112 h'
     at false false false false false false false true d' s' f' o' c' m' h' k' = eqb-true b 99 k'
-    at false false false false false false false false d' s' f' o' c' m' h' k' = (
-      (λ i. both_ways (digit b) d' (is_digit b i)),
-      (eqb-false b 10 f', (eqb-false b 32 s', (eqb-false b 44 m', (eqb-false b 99 k', (eqb-false b 112 h', (eqb-false b 123 o', (eqb-false b 125 c', tt))))))),
-    )
+    at false false false false false false false false d' s' f' o' c' m' h' k' =
+        let P : ℕ → Type 0 = λ c. b ≢ c in (
+          (λ i. both_ways (digit b) d' (is_digit b i)),
+          All-cons P 10 (32 ∷ 44 ∷ 99 ∷ 112 ∷ 123 ∷ 125 ∷ []) (eqb-false b 10 f') (All-cons P 32 (44 ∷ 99 ∷ 112 ∷ 123 ∷ 125 ∷ []) (eqb-false b 32 s') (
+              All-cons P 44 (99 ∷ 112 ∷ 123 ∷ 125 ∷ []) (eqb-false b 44 m') (All-cons P 99 (112 ∷ 123 ∷ 125 ∷ []) (eqb-false b 99 k') (
+              All-cons P 112 (123 ∷ 125 ∷ []) (eqb-false b 112 h') (All-cons P 123 (125 ∷ []) (eqb-false b 123 o') (All-cons P 125 [] (eqb-false b 125 c') (All-nil P))))))),
+        )
 
 pub of_kind : (b : ℕ) (k : ByteKind) → kind b ≡ k → Kinded b k
 of_kind b k e = subst (Kinded b) e (kinded b)
 
 pub digit_kind : (b : ℕ) → IsDigit b → kind b ≡ Digit
 digit_kind b d = rw (is_digit b d)
-
--- a byte of another kind than Digit or Comment
-pub other_than_digit : (b : ℕ) → (kind b ≡ Digit → ⊥) → digit b ≡ false
-other_than_digit b n = no_digit b (λ d. n (digit_kind b d))
-
-pub other_than_comment : (b : ℕ) → (kind b ≡ Comment → ⊥) → eqb b 99 ≡ false
-other_than_comment b n = ne_eqb b 99 (λ e. n (ap kind e))
-
-pub digit_small : (b : ℕ) → kind b ≡ Digit → b - 48 ≤ 9
-digit_small b e = let d = of_kind b Digit e in omega (arith, d.0, d.1)

@@ -1,5 +1,5 @@
 -- What the scanner answers, by the words that are ahead of it.
-use Rattle.std.specs.Prelude.{◌≡◌, ℕ, ◌+◌, ◌-◌, ◌*◌, ◌<◌, ◌≤◌, Bool, true, false, cond, ◌⊎◌, List, [], ◌∷◌, length, drop, Some, None, Ok, Err, Option, Result, slice_index}
+use Rattle.std.specs.Prelude.{◌≡◌, ℕ, ◌+◌, ◌-◌, ◌*◌, ◌<◌, ◌≤◌, ◌≢◌, Bool, true, false, cond, List, [], ◌∷◌, length, drop, Some, None, Ok, Err, Option, Result}
 use Rattle.scan.specs.declared.ByteKind.{ByteKind}
 use Rattle.scan.specs.declared.ByteKind.TheVariants.{Digit, Space, Feed as KindFeed, Open as KindOpen, Close as KindClose, Comma as KindComma, Header as KindHeader, Comment, Other}
 use Rattle.scan.specs.declared.Token.{Token}
@@ -10,8 +10,10 @@ use Rattle.scan.specs.declared.ScanFault.{ScanFault}
 use Rattle.scan.specs.declared.scanner.Position.{Position}
 use Rattle.scan.specs.declared.scanner.Position.TheVariants.{LineStart, FirstByte, Within}
 use Rattle.scan.specs.declared.scanner.Scanner.{Scanner}
+use Rattle.scan.specs.declared.scanner.reading.Found.{Found}
 use Rattle.scan.specs.Words.{Word, line, header, stray, number, opening, closing, comma, feed, unknown, end, cut, Placed}
-use Rattle.scan.specs.Bytes.{kind, Mode, line_start, first_byte, in_line, words}
+use Rattle.scan.specs.Bytes.{Mode, line_start, first_byte, in_line, words}
+use Rattle.scan.specs.Text.{First}
 
 abbrev pub mode : Position → Mode
 mode LineStart = line_start
@@ -96,39 +98,36 @@ Falls s s' (Err f) = Unit {0}
 
 -- For the private functions.
 
--- the scanner is past the start of a line
-abbrev pub PastStart : Position → Type 0
-PastStart LineStart = ⊥
-PastStart FirstByte = Unit {0}
-PastStart Within = Unit {0}
+-- the mode in a line, at its first byte or further on
+abbrev pub line_mode : Bool → Mode
+line_mode true = first_byte
+line_mode false = in_line
 
--- the next byte is there, and of this kind
-abbrev pub Here : ByteKind → Scanner → Type 0
-Here k s = (s.at < length s.bytes.now) × (kind (slice_index s.bytes.now s.at) ≡ k)
+-- what the line begins with that comes after n bytes of comments, and what it gives then
+abbrev pub LineFirst : List ℕ → ℕ × Token → Type 0
+LineFirst bs r =
+    (r.0 ≤ length bs) × ((i : ℕ) → words line_start i bs ≡ (i + r.0, word_of r.1) ∷ cond (final r.1) [] (words first_byte (i + r.0) (drop r.0 bs))) × Small r.1
 
--- a number v as it is kept in r: exactly up to 65,535
-abbrev pub Kept : ℕ → ℕ → Type 0
-Kept v r = ((v ≡ r) × (v ≤ 65535)) ⊎ ((65535 < v) × (65535 < r))
+-- the first byte, if there is one, is no space
+abbrev pub NoSpaceFirst : List ℕ → Type 0
+NoSpaceFirst = First (λ b. b ≢ 32)
 
--- the first word ahead is a number, which is kept in r
-abbrev pub NumberFirst : Scanner → Scanner → ℕ → Type 0
-NumberFirst s s' r = (v : ℕ) × (ahead s ≡ (s.at, number v) ∷ ahead s') × Kept v r
-
--- past a comment, up to its line feed or to the end of the file
-abbrev pub PastComment : Scanner → Scanner → Bool → Type 0
-PastComment s s' true = ahead s ≡ ahead s'
-PastComment s s' false = ahead s ≡ (s'.at, cut) ∷ []
+-- bytes of a line, at any place, begin with a token, or with a word that is refused
+abbrev pub WordFirst : Bool → List ℕ → Result Found ScanCause → Type 0
+WordFirst first bs (Ok f) =
+    ((i : ℕ) → words (line_mode first) i bs ≡ (i, word_of f.token) ∷ cond (final f.token) [] (words (mode f.next) (i + f.length) (drop f.length bs))) ×
+    Small f.token × (final f.token ≡ false → 0 < f.length) × (f.length ≤ length bs)
+WordFirst first bs (Err c) = (i : ℕ) → (w : Word) × (ws : List Placed) × (words (line_mode first) i bs ≡ (i, w) ∷ ws) × Refused c w
 
 -- the token that a byte by itself is, with the position after it
-abbrev pub single_token : ByteKind → Position → Option (Token × Position)
-single_token Digit p = None
-single_token Space p = None
-single_token KindFeed p = Some (Feed, LineStart)
-single_token KindOpen p = Some (Open, Within)
-single_token KindClose p = Some (Close, Within)
-single_token KindComma p = Some (Comma, Within)
-single_token KindHeader LineStart = Some (Stray, Within)
-single_token KindHeader FirstByte = Some (Header, Within)
-single_token KindHeader Within = Some (Stray, Within)
-single_token Comment p = None
-single_token Other p = None
+abbrev pub single_token : ByteKind → Bool → Option (Token × Position)
+single_token Digit b = None
+single_token Space b = None
+single_token KindFeed b = Some (Feed, LineStart)
+single_token KindOpen b = Some (Open, Within)
+single_token KindClose b = Some (Close, Within)
+single_token KindComma b = Some (Comma, Within)
+single_token KindHeader true = Some (Header, Within)
+single_token KindHeader false = Some (Stray, Within)
+single_token Comment b = None
+single_token Other b = None

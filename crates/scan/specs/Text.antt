@@ -5,11 +5,11 @@
 -- Bytes go by their codes: 10 line feed, 32 space, 44 comma, 48 to 57 digits, 99 c, 112 p, 123 {, 125 }.
 -- A place is counted from 0 at the file's first byte.
 use Rattle.std.specs.Prelude.{◌≡◌, ℕ, ◌+◌, ◌-◌, ◌*◌, ◌≤◌, ◌≢◌, List, [], ◌∷◌, ◌++◌, length}
-use Rattle.std.specs.List.{AllByRecursion}
+use Rattle.std.specs.List.{All}
 use Rattle.scan.specs.Words.{Word, line, header, stray, number, opening, closing, comma, feed, unknown, end, cut, Placed}
 use Rattle.scan.specs.Bytes.{file_words}
 
--- `AllByRecursion P bs` says P of each byte, and `First P bs` of the first, if there is one
+-- `All P bs` says P of each byte, and `First P bs` of the first, if there is one
 abbrev pub First : (ℕ → Type 0) → List ℕ → Type 0
 First P [] = Unit {0}
 First P (b ∷ bs) = P b
@@ -22,7 +22,7 @@ NoDigit b = IsDigit b → ⊥
 
 -- bytes of one line, without a line feed
 abbrev pub InOneLine : List ℕ → Type 0
-InOneLine = AllByRecursion (λ b. b ≢ 10)
+InOneLine = All (λ b. b ≢ 10)
 
 -- the value of digits that come after others of value v
 abbrev pub value : ℕ → List ℕ → ℕ
@@ -35,7 +35,7 @@ pub data Mark : ℕ → Word → Type 0 where
   a_closing : Mark 125 closing
   a_comma : Mark 44 comma
   a_stray : Mark 112 stray
-  an_unknown : (b : ℕ) → NoDigit b → AllByRecursion (λ c. b ≢ c) (10 ∷ 32 ∷ 44 ∷ 112 ∷ 123 ∷ 125 ∷ []) → Mark b unknown
+  an_unknown : (b : ℕ) → NoDigit b → All (λ c. b ≢ c) (10 ∷ 32 ∷ 44 ∷ 112 ∷ 123 ∷ 125 ∷ []) → Mark b unknown
 
 -- What bytes of one line, which stand from a place i on, spell: they are spaces, numbers and marks. A number takes all
 -- the digits that stand together. Here a p is a stray one.
@@ -44,7 +44,7 @@ pub data Spells : ℕ → List ℕ → List Placed → Type 0 where
   space : (i : ℕ) (t : List ℕ) (ws : List Placed) → Spells (i + 1) t ws → Spells i (32 ∷ t) ws
   mark : (i b : ℕ) (w : Word) (t : List ℕ) (ws : List Placed) → Mark b w → Spells (i + 1) t ws → Spells i (b ∷ t) ((i, w) ∷ ws)
   digits :
-      (i d : ℕ) (ds t : List ℕ) (ws : List Placed) → AllByRecursion IsDigit (d ∷ ds) → First NoDigit t → Spells (i + length (d ∷ ds)) t ws →
+      (i d : ℕ) (ds t : List ℕ) (ws : List Placed) → All IsDigit (d ∷ ds) → First NoDigit t → Spells (i + length (d ∷ ds)) t ws →
       Spells i (d ∷ (ds ++ t)) ((i, number (value 0 (d ∷ ds))) ∷ ws)
 
 -- What the bytes of a whole line that is no comment spell: a p as its first byte is a header.

@@ -1,9 +1,9 @@
-ghost use Rattle.std.specs.Prelude.{◌≡◌, ◌<◌, ◌≤◌, Ok};
-ghost use Rattle.scan.specs.declared.ByteKind.TheVariants.{Digit, Space, Comment};
-ghost use Rattle.scan.specs.declared.scanner.Position.TheVariants.{LineStart, Within};
-ghost use Rattle.scan.specs.Bytes.{file_words};
-ghost use Rattle.scan.specs.Scans.{ahead, Answers, Falls, PastStart, Here, NumberFirst, PastComment, TokenFirst, single_token};
-ghost use Rattle.scan.specs.Text.{EveryFileReads, FilesReadOnce};
+ghost use Rattle.std.specs.Prelude.{◌≡◌, ◌<◌, ◌≤◌, ◌==◌, ◌↔◌, IsTrue, MatchOption, drop, length};
+ghost use Rattle.std.specs.List.{All, position, prefix_len};
+ghost use Rattle.scan.specs.declared.scanner.Position.TheVariants.{LineStart, FirstByte};
+ghost use Rattle.scan.specs.Bytes.{digit, file_words};
+ghost use Rattle.scan.specs.Scans.{ahead, Answers, Falls, LineFirst, WordFirst, NoSpaceFirst, single_token};
+ghost use Rattle.scan.specs.Text.{IsDigit, value, EveryFileReads, FilesReadOnce};
 
 use super::super::{ByteKind, ScanCause, ScanFault, Token, kind_of};
 use super::{Position, Scanner};
@@ -29,132 +29,142 @@ impl<'a> Scanner<'a> {
         ensures same { self.new.bytes ≡ self.old.bytes }
         ensures falls { Falls self.old self.new result }
     {
-        if let Position::LineStart = self.position {
-            let token = self.line();
+        let rest = self.rest();
+        if self.position == Position::LineStart {
+            let (comments, token) = line_start(rest);
+            self.at += comments;
+            self.position = Position::FirstByte;
             return Ok((self.at, token));
         }
-        self.word()
-    }
-
-    // The token that a line begins with, after comments.
-    fn line(&mut self) -> Token
-        requires { self.old.position ≡ LineStart }
-        ensures starts { TokenFirst (ahead self.old) self.new.at result self.new }
-        ensures same { self.new.bytes ≡ self.old.bytes }
-        ensures falls { Falls self.old self.new (Ok (0, result)) }
-    {
-        while self.at < self.bytes.len() {
-            let ByteKind::Comment = kind_of(self.bytes[self.at]) else {
-                self.position = Position::FirstByte;
-                return Token::Line;
-            };
-            if !self.skip_comment() {
-                return Token::Cut;
-            }
-        }
-        Token::End
-    }
-
-    // Goes over a comment: whether its line feed is there.
-    fn skip_comment(&mut self) -> bool
-        requires { (self.old.position ≡ LineStart) × (Here Comment self.old) }
-        ensures past { PastComment self.old self.new result }
-        ensures same { (self.new.bytes ≡ self.old.bytes) × (self.new.position ≡ LineStart) }
-        ensures on { self.old.at < self.new.at }
-    {
-        self.at += 1;
-        while self.at < self.bytes.len() {
-            let b = self.bytes[self.at];
-            self.at += 1;
-            if b == b'\n' {
-                return true;
-            }
-        }
-        false
-    }
-
-    // The next token within a line.
-    fn word(&mut self) -> Result<(usize, Token), ScanFault>
-        requires { PastStart self.old.position }
-        ensures answers { Answers self.old self.new result }
-        ensures same { self.new.bytes ≡ self.old.bytes }
-        ensures falls { Falls self.old self.new result }
-    {
-        self.skip_spaces();
-        let place = self.at;
-        if place >= self.bytes.len() {
-            return Ok((place, Token::Cut));
-        }
-        let kind = kind_of(self.bytes[place]);
-        if let ByteKind::Digit = kind {
-            let value = self.number();
-            if value > 65535 {
-                return Err(ScanFault {
-                    cause: ScanCause::NumberTooLarge,
-                    place,
-                });
-            }
-            return Ok((place, Token::Number(value as u16)));
-        }
-        let Some((token, next)) = single(kind, self.position) else {
-            return Err(ScanFault {
-                cause: ScanCause::UnknownByte,
-                place,
-            });
+        let spaces = spaces(rest);
+        let place = self.at + spaces;
+        let word = match word(&rest[spaces..], is_first(self.position, spaces)) {
+            Ok(word) => word,
+            Err(cause) => return Err(ScanFault { cause, place }),
         };
-        self.at += 1;
-        self.position = next;
-        Ok((place, token))
+        self.at = place + word.length;
+        self.position = word.next;
+        Ok((place, word.token))
     }
 
-    // Goes over the spaces that stand here.
-    fn skip_spaces(&mut self)
-        requires { PastStart self.old.position }
-        ensures past { (ahead self.old ≡ ahead self.new) × ((Here Space self.new → ⊥)) }
-        ensures same { (self.new.bytes ≡ self.old.bytes) × (PastStart self.new.position) }
-        ensures on { self.old.at ≤ self.new.at }
+    // The bytes that are not taken yet.
+    fn rest(&self) -> &'a [u8]
+        ensures { result.now ≡ drop self.now.at self.now.bytes.now }
     {
-        while self.at < self.bytes.len() {
-            let ByteKind::Space = kind_of(self.bytes[self.at]) else {
-                break;
-            };
-            self.at += 1;
-            self.position = Position::Within;
-        }
-    }
-
-    // Goes over the digits that stand here: their value, or a number above 65,535 in its place.
-    fn number(&mut self) -> u32
-        requires { (PastStart self.old.position) × (Here Digit self.old) }
-        ensures first { NumberFirst self.old self.new result }
-        ensures same { (self.new.bytes ≡ self.old.bytes) × (self.new.position ≡ Within) }
-        ensures on { self.old.at < self.new.at }
-    {
-        let mut value: u32 = 0;
-        while self.at < self.bytes.len() {
-            let b = self.bytes[self.at];
-            let ByteKind::Digit = kind_of(b) else {
-                break;
-            };
-            value = (value * 10 + u32::from(b - b'0')).min(65536);
-            self.at += 1;
-        }
-        self.position = Position::Within;
-        value
+        &self.bytes[self.at..]
     }
 }
 
-// The token that a byte by itself is, with the position after it.
-fn single(kind: ByteKind, position: Position) -> Option<(Token, Position)>
-    ensures { result ≡ single_token kind position }
+/// A token at the first of some bytes, how many of them it takes, and the position after them.
+#[derive(Clone, Copy)]
+struct Found {
+    token: Token,
+    length: usize,
+    next: Position,
+}
+
+// How many bytes of comments stand first in a line or more, and the token that the next line begins with.
+fn line_start(bytes: &[u8]) -> (usize, Token)
+    ensures { LineFirst bytes.now result }
 {
-    let token = match (kind, position) {
-        (ByteKind::Feed, _) => return Some((Token::Feed, Position::LineStart)),
-        (ByteKind::Open, _) => Token::Open,
-        (ByteKind::Close, _) => Token::Close,
-        (ByteKind::Comma, _) => Token::Comma,
-        (ByteKind::Header, Position::FirstByte) => Token::Header,
-        (ByteKind::Header, _) => Token::Stray,
+    let mut rest = bytes;
+    while let Some(first) = rest.first() {
+        if *first != b'c' {
+            return (bytes.len() - rest.len(), Token::Line);
+        }
+        let Some(feed) = first_feed(rest) else {
+            return (bytes.len(), Token::Cut);
+        };
+        rest = &rest[feed + 1..];
+    }
+    (bytes.len(), Token::End)
+}
+
+fn first_feed(bytes: &[u8]) -> Option<usize>
+    ensures { result ≡ position (λ b. b == 10) bytes.now }
+{
+    bytes.iter().position(|b| *b == b'\n')
+}
+
+// How many spaces stand first.
+fn spaces(bytes: &[u8]) -> usize
+    ensures longest { result ≡ prefix_len (λ b. b == 32) bytes.now }
+    ensures within { result ≤ length bytes.now }
+{
+    bytes.iter().take_while(|b| **b == b' ').count()
+}
+
+// Whether a byte is its line's first, from the position before so many spaces.
+fn is_first(position: Position, spaces: usize) -> bool
+    ensures { IsTrue result ↔ (spaces ≡ 0) × (position ≡ FirstByte) }
+{
+    spaces == 0 && position == Position::FirstByte
+}
+
+// The token that stands first in the rest of a line; `is_first` says whether this is the whole line.
+fn word(bytes: &[u8], is_first: bool) -> Result<Found, ScanCause>
+    requires { NoSpaceFirst bytes.now }
+    ensures { WordFirst is_first bytes.now result }
+{
+    let Some(first) = bytes.first() else {
+        return Ok(Found {
+            token: Token::Cut,
+            length: 0,
+            next: Position::Within,
+        });
+    };
+    let kind = kind_of(*first);
+    if kind == ByteKind::Digit {
+        let length = digits(bytes);
+        let Some(value) = number(&bytes[..length]) else {
+            return Err(ScanCause::NumberTooLarge);
+        };
+        return Ok(Found {
+            token: Token::Number(value),
+            length,
+            next: Position::Within,
+        });
+    }
+    let Some((token, next)) = single(kind, is_first) else {
+        return Err(ScanCause::UnknownByte);
+    };
+    Ok(Found {
+        token,
+        length: 1,
+        next,
+    })
+}
+
+// How many digits stand first.
+fn digits(bytes: &[u8]) -> usize
+    ensures { result ≡ prefix_len digit bytes.now }
+{
+    bytes.iter().take_while(|b| b.is_ascii_digit()).count()
+}
+
+// The value of digits, unless it is above 65,535.
+fn number(digits: &[u8]) -> Option<u16>
+    requires { All IsDigit digits.now }
+    ensures { MatchOption result (65535 < value 0 digits.now) (λ v. v ≡ value 0 digits.now) }
+{
+    let mut value: u16 = 0;
+    for d in digits {
+        value = value.checked_mul(10)?.checked_add(u16::from(*d - b'0'))?;
+    }
+    Some(value)
+}
+
+// The token that a byte by itself is, with the position after it.
+fn single(kind: ByteKind, is_first: bool) -> Option<(Token, Position)>
+    ensures { result ≡ single_token kind is_first }
+{
+    let token = match kind {
+        ByteKind::Feed => return Some((Token::Feed, Position::LineStart)),
+        ByteKind::Open => Token::Open,
+        ByteKind::Close => Token::Close,
+        ByteKind::Comma => Token::Comma,
+        ByteKind::Header if is_first => Token::Header,
+        ByteKind::Header => Token::Stray,
         _ => return None,
     };
     Some((token, Position::Within))
