@@ -2,7 +2,6 @@ pub mod Answering
 pub mod Callers
 pub mod Clash
 pub mod Ends
-pub mod Feeds
 pub mod Held
 pub mod Laid
 pub mod Limits

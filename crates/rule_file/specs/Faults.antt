@@ -1,5 +1,5 @@
 -- The causes of a rule file's refusals by number, and a fault as it is told.
-use Rattle.std.specs.Prelude.{ℕ, suc, cond, List, [], ◌∷◌, take, ◌==◌}
+use Rattle.std.specs.Prelude.{ℕ, ◌+◌, List, count_by, take, ◌==◌}
 use Rattle.refusal.specs.declared.Layer.TheVariants.{File as FileLayer, Scan as ScanLayer, Line as LineLayer}
 use Rattle.refusal.specs.declared.Refusal.{Refusal}
 use Rattle.scan.specs.Causes.{scan_number}
@@ -44,14 +44,9 @@ told (File c p) = record { number = file_number c; place = p; layer = FileLayer 
 abbrev pub told_file : FileFault → Refusal
 told_file f = told f.fault
 
--- how many line feeds there are
-abbrev pub feeds : List ℕ → ℕ
-feeds [] = 0
-feeds (b ∷ bs) = cond (b == 10) (suc (feeds bs)) (feeds bs)
-
 -- the line of a place: the line feeds before it, plus 1
 abbrev pub line_of : List ℕ → ℕ → ℕ
-line_of bs p = suc (feeds (take p bs))
+line_of bs p = count_by (λ b. b == 10) (take p bs) + 1
 
 -- a fault with its line
 abbrev pub located : List ℕ → Fault → FileFault

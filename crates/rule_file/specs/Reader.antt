@@ -1,5 +1,5 @@
 -- What the readers of lines and files do with one token.
-use Rattle.std.specs.Prelude.{◌≡◌, ℕ, ◌+◌, ◌<◌, Bool, true, false, cond, List, ◌∷◌, replicate, Some, None, Ok, Err, Option, Result, ◌==◌, nat_le, nat_lt, slice_index_or, slice_set}
+use Rattle.std.specs.Prelude.{◌≡◌, ℕ, ◌+◌, ◌<◌, ◌≤◌, Bool, true, false, cond, List, ◌∷◌, replicate, Some, None, Ok, Err, Option, Result, ◌==◌, nat_le, nat_lt, slice_index_or, slice_set}
 use Rattle.scan.specs.declared.Token.{Token}
 use Rattle.scan.specs.declared.Token.TheVariants as token
 use Rattle.scan.specs.declared.scanner.Scanner.{Scanner}
@@ -208,6 +208,11 @@ counted t part.CountClose = t
 counted t part.Comma = t
 counted t part.RuleEnd = t
 counted t part.End = t
+
+-- one more of n, where that is at most some number
+abbrev pub OneMore : ℕ → ℕ → FileCause → ℕ → Result (Unit {0}) FileCause → Type 0
+OneMore n most c n' (Ok _) = (n < most) × (n' ≡ n + 1)
+OneMore n most c n' (Err d) = (most ≤ n) × (d ≡ c) × (n' ≡ n)
 
 abbrev pub Counted : Tally → Part → Tally → Result (Unit {0}) FileCause → Type 0
 Counted t p t' (Ok _) = (file_fault t p ≡ None) × (t' ≡ counted t p)

@@ -1,10 +1,11 @@
 //! The file layer: the limits, the number of rules, and the reading of a whole file.
-ghost use Rattle.std.specs.Prelude.{◌≡◌};
+ghost use Rattle.std.specs.Prelude.{◌≡◌, ◌≤◌};
+ghost use Rattle.std.specs.Result.{result_err};
 ghost use Rattle.scan.specs.Scans.{ahead};
 ghost use Rattle.rule_file.specs.Faults.{line_of, located};
 ghost use Rattle.rule_file.specs.Files.{Started, Checked, SpelledOnce, AnsweredOnce, PassedAsForm};
 ghost use Rattle.rule_file.specs.Machine.{mach, surplus_fault, next_fault, Moves, ReadThrough, Passed};
-ghost use Rattle.rule_file.specs.Reader.{Counted, Nearer, Tallied};
+ghost use Rattle.rule_file.specs.Reader.{OneMore, Counted, Nearer, Tallied};
 
 use super::fault::{Fault, FileCause, FileFault};
 use super::line::{LineReader, Part};
@@ -26,7 +27,7 @@ pub struct Extent {
 }
 
 /// What was counted so far.
-#[derive(Clone, Copy)]
+#[derive(Clone, Copy, Default)]
 pub struct Tally {
     /// The number of rules that the header says.
     pub declared: u16,
@@ -36,38 +37,38 @@ pub struct Tally {
 }
 
 impl Tally {
-    fn new() -> Tally
-        ensures { result ≡ record { declared = 0; rules = 0; counts = 0; entries = 0 } }
-    {
-        Tally {
-            declared: 0,
-            rules: 0,
-            counts: 0,
-            entries: 0,
-        }
-    }
-
     /// Counts a part in, unless it is one too many.
     fn count(&mut self, part: Part) -> Result<(), FileCause>
         ensures { Counted self.old part self.new result }
     {
         match part {
-            Part::Size(n) if n > MAX_CHOICES => return Err(FileCause::Limit),
-            Part::Rules(n) if n as usize > MAX_RULES => return Err(FileCause::Limit),
-            Part::Rules(n) => self.declared = n,
-            Part::RuleLine if self.rules >= self.declared => return Err(FileCause::Rules),
-            Part::RuleLine => self.rules += 1,
-            Part::CountOpen if self.counts as usize >= MAX_COUNTS => return Err(FileCause::Limit),
-            Part::CountOpen => self.counts += 1,
-            Part::Choice(_) | Part::Member(_) if self.entries as usize >= MAX_ENTRIES => return Err(
-                FileCause::Limit,
-            ),
-            Part::Choice(_) | Part::Member(_) => self.entries += 1,
-            Part::End if self.rules < self.declared => return Err(FileCause::Rules),
-            _ => {}
+            Part::Size(n) if n > MAX_CHOICES => Err(FileCause::Limit),
+            Part::Rules(n) if n as usize > MAX_RULES => Err(FileCause::Limit),
+            Part::Rules(n) => {
+                self.declared = n;
+                Ok(())
+            }
+            Part::RuleLine => one_more(&mut self.rules, self.declared as usize, FileCause::Rules),
+            Part::CountOpen => one_more(&mut self.counts, MAX_COUNTS, FileCause::Limit),
+            Part::Choice(_) | Part::Member(_) => {
+                one_more(&mut self.entries, MAX_ENTRIES, FileCause::Limit)
+            }
+            Part::End if self.rules < self.declared => Err(FileCause::Rules),
+            _ => Ok(()),
         }
-        Ok(())
     }
+}
+
+// Counts one more, where there are fewer than `most`.
+fn one_more(n: &mut u16, most: usize, refusal: FileCause) -> Result<(), FileCause>
+    requires { most ≤ 65535 }
+    ensures { OneMore n.old most refusal n.new result }
+{
+    if *n as usize >= most {
+        return Err(refusal);
+    }
+    *n += 1;
+    Ok(())
 }
 
 /// A reader of a whole file, part by part.
@@ -86,7 +87,7 @@ impl<'a> FileReader<'a> {
         FileReader {
             scanner: Scanner::new(bytes),
             line: LineReader::new(),
-            tally: Tally::new(),
+            tally: Tally::default(),
         }
     }
 
@@ -111,14 +112,14 @@ impl<'a> FileReader<'a> {
         ensures tallied { Tallied self.old.tally self.new.tally result }
     {
         let (place, part) = self.line.next_part(&mut self.scanner)?;
-        match self.tally.count(part) {
-            Ok(()) => Ok(part),
-            Err(cause) => match part {
+        if let Err(cause) = self.tally.count(part) {
+            return Err(match part {
                 // A rule's line is refused only where it is one too many.
-                Part::RuleLine => Err(self.surplus(place)),
-                _ => Err(Fault::File(cause, place)),
-            },
+                Part::RuleLine => self.surplus(place),
+                _ => Fault::File(cause, place),
+            });
         }
+        Ok(part)
     }
 
     // The fault of a line that is one rule too many: that of its first token, if this stands at the line's own place,
@@ -126,23 +127,20 @@ impl<'a> FileReader<'a> {
     fn surplus(&mut self, place: usize) -> Fault
         ensures { result ≡ surplus_fault (mach self.old) place (ahead self.old.scanner) }
     {
-        match self.first_fault() {
-            Some(fault) if fault.place() == place => fault,
+        match self.try_token() {
+            Err(fault) if fault.place() == place => fault,
             _ => Fault::File(FileCause::Rules, place),
         }
     }
 
-    // The fault of the next token, if it has one.
-    fn first_fault(&mut self) -> Option<Fault>
-        ensures { result ≡ next_fault (mach self.old) (ahead self.old.scanner) }
+    // Takes the next token, or answers the fault that it has by itself.
+    fn try_token(&mut self) -> Result<(), Fault>
+        ensures { result_err result ≡ next_fault (mach self.old) (ahead self.old.scanner) }
     {
-        match self.line.next_part(&mut self.scanner) {
-            Ok((place, part)) => match self.tally.count(part) {
-                Ok(()) => None,
-                Err(cause) => Some(Fault::File(cause, place)),
-            },
-            Err(fault) => Some(Fault::from(fault)),
-        }
+        let (place, part) = self.line.next_part(&mut self.scanner)?;
+        self.tally
+            .count(part)
+            .map_err(|cause| Fault::File(cause, place))
     }
 }
 
@@ -151,37 +149,29 @@ fn read_through(bytes: &[u8]) -> Result<Extent, Fault>
     ensures { ReadThrough bytes.now result }
 {
     let mut reader = FileReader::new(bytes);
-    loop {
-        if let Part::End = reader.next_part()? {
-            return Ok(Extent {
-                size: reader.size(),
-                rules: reader.tally().rules,
-            });
-        }
-    }
+    while reader.next_part()? != Part::End {}
+    Ok(Extent {
+        size: reader.size(),
+        rules: reader.tally().rules,
+    })
 }
 
 // The line of a place: the line feeds before it, plus 1.
 fn line_of(bytes: &[u8], place: usize) -> usize
     ensures { result ≡ line_of bytes.now place }
 {
-    let mut line = 1;
-    for (i, b) in bytes.iter().enumerate() {
-        if i >= place {
-            return line;
-        }
-        if *b == b'\n' {
-            line += 1;
-        }
-    }
-    line
+    let before = &bytes[..place.min(bytes.len())];
+    before.iter().filter(|b| **b == b'\n').count() + 1
 }
 
 /// A fault with its line.
 fn refused(fault: Fault, bytes: &[u8]) -> FileFault
     ensures { result ≡ located bytes.now fault }
 {
-    FileFault::from((fault, line_of(bytes, fault.place())))
+    FileFault {
+        fault,
+        line: line_of(bytes, fault.place()),
+    }
 }
 
 /// Checks a file and writes nothing: what it takes in storage, or the fault that is told of it.
@@ -195,8 +185,5 @@ pub fn check_file(bytes: &[u8]) -> Result<Extent, FileFault>
     if bytes.len() > MAX_BYTES {
         return Err(refused(Fault::File(FileCause::Bytes, MAX_BYTES), bytes));
     }
-    match read_through(bytes) {
-        Ok(extent) => Ok(extent),
-        Err(fault) => Err(refused(fault, bytes)),
-    }
+    read_through(bytes).map_err(|fault| refused(fault, bytes))
 }

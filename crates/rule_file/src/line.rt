@@ -44,7 +44,7 @@ pub enum State {
 }
 
 /// What a token is there for.
-#[derive(Clone, Copy)]
+#[derive(Clone, Copy, PartialEq, Eq)]
 pub enum Part {
     HeaderLine,
     Header,

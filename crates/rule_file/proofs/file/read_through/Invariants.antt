@@ -3,8 +3,8 @@ use Rattle.rule_file.specs.Machine.{mach}
 use Rattle.rule_file.proofs.Reading.{Leads}
 use Rattle.rule_file.proofs.file.read_through.Given as goal
 
-abbrev pub invariant-loop-reader : goal.invariant-loop-reader
-invariant-loop-reader l = Leads l.bytes (mach l.reader) (ahead l.reader.scanner)
+abbrev pub invariant-loop : goal.invariant-loop
+invariant-loop l = Leads l.bytes (mach l.reader) (ahead l.reader.scanner)
 
-abbrev pub decreases-loop-reader : goal.decreases-loop-reader
-decreases-loop-reader l = left l.reader.scanner
+abbrev pub decreases-loop : goal.decreases-loop
+decreases-loop l = left l.reader.scanner
