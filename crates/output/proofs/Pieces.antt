@@ -1,7 +1,9 @@
 -- A text written piece by piece.
-use Rattle.std.proofs.Common.{◌≡◌, ℕ, suc, ◌+◌, ◌^◌, ◌<◌, ◌≤◌, true, false, List, [], ◌∷◌, ◌++◌, length, get_or, drop, set, Some, None, Option, sym, refl, ap, ◌∙◌, subst, add-zero, add-suc, suc-add, arith, length-append}
-use lib.Seq.{sets, sets-eq}
-use Rattle.std.proofs.lemmas.List.{drop_more}
+use Rattle.std.proofs.Common.{◌≡◌, ℕ, suc, ◌+◌, ◌-◌, min, take, ◌^◌, ◌<◌, ◌≤◌, ◌⊎◌, true, false, List, [], ◌∷◌, ◌++◌, length, drop, set, Some, None, Option, inl, inr, sym, refl, ap, ◌∙◌, subst, append_assoc, add-zero, add-suc, suc-add, arith, length-append, append-nil}
+use Rattle.std.proofs.lemmas.List.Edits.{sets, sets-eq}
+use Rattle.std.proofs.Math.Seq.{length-sets}
+use Rattle.std.proofs.lemmas.List.{set_past, take-append-drop, drop_all, take_all, length-take, drop-drop}
+use Rattle.std.proofs.lemmas.Bool.{cases_lt}
 use Rattle.std.proofs.lemmas.Bool.{leb-true, leb-false}
 use Rattle.output.specs.Writing.{Wrote, laid, beyond, within, Fits}
 
@@ -9,6 +11,47 @@ pub sets_append : (xs ys l : List ℕ) (i : ℕ) → sets l i (xs ++ ys) ≡ set
 sets_append [] ys l i = ap (λ (k : ℕ). sets l k ys) (sym (add-zero i))
 sets_append (x ∷ xs) ys l i =
     sets_append xs ys (set l i x) (suc i) ∙ ap (λ (k : ℕ). sets (sets (set l i x) (suc i) xs) k ys) (suc-add i (length xs) ∙ sym (add-suc i (length xs)))
+
+-- past the end of the list nothing is written
+sets_past : (xs l : List ℕ) (i : ℕ) → length l ≤ i → sets l i xs ≡ l
+sets_past [] l i h = refl
+sets_past (x ∷ xs) l i h = rw (set_past l i x h) (sets_past xs l (suc i) (omega arith))
+
+-- what is left of a text goes unwritten where nothing is left of the list
+rest_past : (text l : List ℕ) (i k : ℕ) → (length text ≤ k) ⊎ (length l ≤ i + k) → sets l i text ≡ sets l i (take k text)
+rest_past text l i k h =
+    let parts : sets l i (take k text ++ drop k text) ≡ sets (sets l i (take k text)) (i + length (take k text)) (drop k text) = sets_append (take k text) (drop k text) l i in
+    ap (sets l i) (sym (take-append-drop k text)) ∙ parts ∙ by h
+  where
+    by : (length text ≤ k) ⊎ (length l ≤ i + k) → sets (sets l i (take k text)) (i + length (take k text)) (drop k text) ≡ sets l i (take k text)
+    by (inl h) = rw (drop_all k text h) refl
+    by (inr h) = elim (cases_lt k (length text)) [
+      | inl more ↦ sets_past (drop k text) (sets l i (take k text)) (i + length (take k text)) (omega (arith, length-sets l i (take k text), length-take k text))
+      | inr all ↦ rw (drop_all k text all) refl
+    ]
+
+-- of a text the part that has room is written, into the part of the list that it covers
+laid_over : (out text mid : List ℕ) (at stop : ℕ) → at ≤ length out → stop ≡ min (at + length text) (length out) → mid ≡ take (stop - at) text → take at out ++ (mid ++ drop (stop - at) (drop at out)) ≡ sets out at text
+laid_over out text mid at stop room s m =
+    let rest : (length text ≤ stop - at) ⊎ (length out ≤ at + (stop - at)) = elim (cases_lt (length out) (at + length text)) [ inl h ↦ inr (omega arith) | inr h ↦ inl (omega arith) ] in
+    let long : length (take (stop - at) text) ≡ stop - at = omega (arith, length-take (stop - at) text) in
+    let after : drop (stop - at) (drop at out) ≡ drop (at + length (take (stop - at) text)) out = rw long (drop-drop (stop - at) at out) in
+    rw (m, after) (sym (rest_past text out at (stop - at) rest ∙ sets-eq (take (stop - at) text) out at (omega (arith, long)) ∙ append_assoc (take at out) (take (stop - at) text) _))
+
+-- and past the end of the list nothing is
+laid_past : (out text mid : List ℕ) (at start stop : ℕ) → length out ≤ at → start ≡ length out → stop ≡ length out → mid ≡ take (stop - start) text → take start out ++ (mid ++ drop (stop - start) (drop start out)) ≡ sets out at text
+laid_past out text mid at start stop far s t m =
+    let none : stop - start ≡ 0 = omega arith in
+    rw (m, none, s, drop_all (length out) out (omega arith), append-nil, take_all (length out) out (omega arith)) (sym (sets_past text out at far))
+
+pub laid_there : (out text mid : List ℕ) (at start stop : ℕ) → start ≡ min at (length out) → stop ≡ min (at + length text) (length out) → mid ≡ take (stop - start) text → take start out ++ (mid ++ drop (stop - start) (drop start out)) ≡ sets out at text
+laid_there out text mid at start stop s t m =
+    elim (cases_lt (length out) at) [
+      | inl far ↦ laid_past out text mid at start stop (omega arith) (omega arith) (omega arith) m
+      | inr room ↦
+          let here : start ≡ at = omega arith in
+          rw here (laid_over out text mid at stop room t (rw here at m))
+    ]
 
 -- once a piece is written, the rest of the text is still to be written after it
 pub piece : {xs l l' : List ℕ} {i i' : ℕ} (ys : List ℕ) → Wrote l i xs l' (Some i') → sets l i (xs ++ ys) ≡ sets l' i' ys
@@ -50,12 +93,6 @@ onward_cut left' out' o e v = o out' None (same_text e (cut left' out' v))
 -- nothing more, and the last piece
 pub onward_same : {out whole now left left' : List ℕ} {start at : ℕ} → Onward out start whole now at left → left ≡ left' → Onward out start whole now at left'
 onward_same o e out' r w = o out' r (same_text e w)
-
--- one byte more: written where there is room
-pub byte_more : (text l l' : List ℕ) (at i : ℕ) → i < length text → l' ≡ set l (at + i) (get_or text i 0) → sets l (at + i) (drop i text) ≡ sets l' (at + (i + 1)) (drop (i + 1) text)
-byte_more text l l' at i h e =
-    let p : suc (at + i) ≡ at + (i + 1) = omega arith in
-    ap (λ (r : List ℕ). sets l (at + i) r) (drop_more text i 0 h) ∙ ap (λ (k : ℕ). sets (set l (at + i) (get_or text i 0)) k (drop (i + 1) text)) p ∙ ap (λ (r : List ℕ). sets r (at + (i + 1)) (drop (i + 1) text)) (sym e)
 
 -- a text that was measured over no bytes at all is as long as was answered, and with None longer than any list
 pub has_room : {text m : List ℕ} {r : Option ℕ} (n : ℕ) → Wrote [] 0 text m r → within r n ≡ true → length text ≤ n

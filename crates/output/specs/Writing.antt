@@ -1,5 +1,5 @@
 -- A text written into a list of bytes.
-use Rattle.std.specs.Prelude.{◌≡◌, ℕ, ◌+◌, ◌^◌, ◌≤◌, Bool, false, List, ◌++◌, length, drop, Some, None, Option, nat_le}
+use Rattle.std.specs.Prelude.{◌≡◌, ℕ, ◌+◌, ◌^◌, ◌<◌, ◌≤◌, ◌⊎◌, Bool, false, List, ◌++◌, length, drop, Some, None, Option, nat_le}
 use Rattle.std.proofs.lemmas.List.Edits.{sets}
 
 -- What writing a text at a place answers, where out' is the list then.
@@ -22,3 +22,9 @@ within None room = false
 -- A text that fits into a list and stands at its front: its length, and the bytes after it are those that were there.
 abbrev pub Fits : List ℕ → List ℕ → List ℕ → ℕ → Type 0
 Fits text out out' k = (k ≡ length text) × (k ≤ length out) × (out' ≡ text ++ drop k out)
+
+-- What writing a whole text of at most that many bytes answers: it stands at the front, or it has more bytes or does not
+-- fit, and the list is as it was.
+abbrev pub WroteWhole : List ℕ → ℕ → List ℕ → List ℕ → Option ℕ → Type 0
+WroteWhole text most out out' (Some k) = (length text ≤ most) × Fits text out out' k
+WroteWhole text most out out' None = ((most < length text) ⊎ (length out < length text)) × (out' ≡ out)

@@ -1,5 +1,6 @@
 -- What printing answers, and the yes choices as a line.
-use Rattle.std.specs.Prelude.{◌≡◌, ℕ, suc, ◌<◌, Bool, true, false, List, [], ◌∷◌, ◌++◌, length, Ok, Err, decimal, Result}
+use Rattle.std.specs.Prelude.{◌≡◌, ℕ, suc, ◌<◌, List, [], ◌∷◌, ◌++◌, length, Ok, Err, codes, decimal, Result}
+use Rattle.std.specs.List.{join_by}
 use Rattle.book.specs.declared.Mark.{Mark}
 use Rattle.book.specs.declared.Mark.TheVariants.{Open, Yes, No}
 use Rattle.output.specs.Writing.{Fits}
@@ -14,19 +15,9 @@ yes_choices c (Open ∷ ms) = yes_choices (suc c) ms
 yes_choices c (Yes ∷ ms) = c ∷ yes_choices (suc c) ms
 yes_choices c (No ∷ ms) = yes_choices (suc c) ms
 
--- what stands before a number: a space, but for the first
-abbrev pub gap : Bool → List ℕ
-gap true = []
-gap false = 32 ∷ []
-
--- numbers with one space between them; the flag says that the first of them is the first of the line
-abbrev pub spaced : Bool → List ℕ → List ℕ
-spaced first [] = []
-spaced first (c ∷ cs) = (gap first ++ decimal c) ++ spaced false cs
-
--- the line of the yes choices
+-- the line of the yes choices, with one space between them
 unfoldable pub choice_line : List Mark → List ℕ
-choice_line ms = spaced true (yes_choices 1 ms) ++ (10 ∷ [])
+choice_line ms = join_by decimal (codes " ") (yes_choices 1 ms) ++ codes "\n"
 
 -- A text printed into a list: its length is answered and the bytes after it are untouched; a list that is too short is
 -- refused and stays as it was.

@@ -24,11 +24,6 @@ second_line Spent ms = []
 unfoldable pub verdict_text : Verdict → List Mark → List ℕ
 verdict_text v ms = word v.ending ++ (codes " " ++ (decimal v.trials ++ (codes "\n" ++ second_line v.ending ms)))
 
--- a refused file: the number of the cause, the place and the line
-unfoldable pub refusal_text : Refusal → ℕ → List ℕ
-refusal_text r line =
-    codes "refused " ++ (decimal r.number ++ (codes " at " ++ (decimal r.place ++ (codes " line " ++ (decimal line ++ codes "\n")))))
-
 -- the line or the row
 abbrev pub position_text : Position → List ℕ
 position_text (Line n) = codes " line " ++ decimal n
@@ -37,3 +32,7 @@ position_text (Row n) = codes " row " ++ decimal n
 -- a refused sheet: the number of the cause, the place, and the line or row of that
 unfoldable pub refusal_text_at : Refusal → Position → List ℕ
 refusal_text_at r p = codes "refused " ++ (decimal r.number ++ (codes " at " ++ (decimal r.place ++ (position_text p ++ codes "\n"))))
+
+-- a refused file: the same, with the line
+abbrev pub refusal_text : Refusal → ℕ → List ℕ
+refusal_text r line = refusal_text_at r (Line line)

@@ -1,13 +1,12 @@
 //! What the programs print: fixed words and numbers, written into bytes that the caller lends.
 #![tactic(auto)]
 
-ghost use Rattle.std.specs.Prelude.{◌≡◌, ◌++◌, decimal};
-ghost use Rattle.output.specs.Writing.{Wrote};
-ghost use Rattle.printing.specs.Words.{word, second_line, verdict_text, refusal_text, position_text, refusal_text_at};
-ghost use Rattle.printing.specs.Output.{gap, choice_line, Printed};
+ghost use Rattle.std.specs.Prelude.{◌≡◌};
+ghost use Rattle.printing.specs.Words.{word, verdict_text, refusal_text, position_text, refusal_text_at};
+ghost use Rattle.printing.specs.Output.{choice_line, Printed};
 
 use book::Mark;
-use output::{has_room, put, put_number};
+use output::{Text, write_whole};
 use refusal::{JobCause, JobFault, Refusal};
 use solver::{Ending, Verdict};
 
@@ -20,89 +19,86 @@ pub enum Position {
     Row(usize),
 }
 
+/// The line of the yes choices.
+#[derive(Drop)]
+struct YesChoices<'a> {
+    marks: &'a [Mark],
+}
+
+/// A verdict, with the marks that its search left.
+#[derive(Drop)]
+struct Search<'a> {
+    verdict: Verdict,
+    marks: &'a [Mark],
+}
+
+/// A refusal, with the line or row of its place.
+#[derive(Drop)]
+struct Refused {
+    refusal: Refusal,
+    position: Position,
+}
+
 /// The word for an ending.
-fn word_of(ending: Ending) -> &'static [u8]
+// A table by hand, since the programs print no variant by its name.
+fn word_of(ending: Ending) -> &'static str
     ensures { result.now ≡ word ending }
 {
     match ending {
-        Ending::Found => b"found",
-        Ending::None => b"none",
-        Ending::Spent => b"spent",
+        Ending::Found => "found",
+        Ending::None => "none",
+        Ending::Spent => "spent",
     }
 }
 
-/// Writes a text, and after it a number.
-fn put_labelled(out: &mut [u8], at: usize, label: &[u8], number: u64) -> Option<usize>
-    ensures { Wrote out.old at (label.now ++ decimal number) out.new result }
-{
-    let at = put(out, at, label)?;
-    put_number(out, at, number)
+impl<'a> Text for YesChoices<'a> {
+    ghost bytes = { λ line. choice_line line.marks.now };
+
+    fn put(&self, out: &mut [u8], start: usize) -> Option<usize> {
+        let mut at = start;
+        let mut gap = "";
+        for (i, mark) in self.marks.iter().enumerate() {
+            if let Mark::Yes = *mark {
+                at = (gap, i as u64 + 1).put(out, at)?;
+                gap = " ";
+            }
+        }
+        "\n".put(out, at)
+    }
 }
 
-/// Writes a choice in a line of choices: after a space, but for the first.
-fn put_choice(out: &mut [u8], at: usize, first: bool, choice: u64) -> Option<usize>
-    ensures { Wrote out.old at (gap first ++ decimal choice) out.new result }
-{
-    let gap: &[u8] = if first { b"" } else { b" " };
-    put_labelled(out, at, gap, choice)
-}
+impl<'a> Text for Search<'a> {
+    ghost bytes = { λ search. verdict_text search.verdict search.marks.now };
 
-/// Writes the line of the yes choices.
-fn put_choices(out: &mut [u8], start: usize, marks: &[Mark]) -> Option<usize>
-    ensures { Wrote out.old start (choice_line marks.now) out.new result }
-{
-    let mut at = start;
-    let mut first = true;
-    for (i, mark) in marks.iter().enumerate() {
-        if let Mark::Yes = *mark {
-            at = put_choice(out, at, first, i as u64 + 1)?;
-            first = false;
+    fn put(&self, out: &mut [u8], at: usize) -> Option<usize> {
+        let Verdict { ending, trials } = self.verdict;
+        let verdict = (word_of(ending), " ", trials, "\n");
+        match ending {
+            Ending::Found => (verdict, YesChoices { marks: self.marks }).put(out, at),
+            Ending::None | Ending::Spent => verdict.put(out, at),
         }
     }
-    put(out, at, b"\n")
 }
 
-/// Writes the line that comes only after found.
-fn put_second_line(out: &mut [u8], at: usize, ending: Ending, marks: &[Mark]) -> Option<usize>
-    ensures { Wrote out.old at (second_line ending marks.now) out.new result }
-{
-    match ending {
-        Ending::Found => put_choices(out, at, marks),
-        Ending::None | Ending::Spent => Some(at),
+impl Text for Position {
+    ghost bytes = { position_text };
+
+    fn put(&self, out: &mut [u8], at: usize) -> Option<usize> {
+        match *self {
+            Position::Line(line) => (" line ", line).put(out, at),
+            Position::Row(row) => (" row ", row).put(out, at),
+        }
     }
 }
 
-fn put_verdict(out: &mut [u8], verdict: Verdict, marks: &[Mark]) -> Option<usize>
-    ensures { Wrote out.old 0 (verdict_text verdict marks.now) out.new result }
-{
-    let at = put(out, 0, word_of(verdict.ending))?;
-    let at = put_labelled(out, at, b" ", verdict.trials)?;
-    let at = put(out, at, b"\n")?;
-    put_second_line(out, at, verdict.ending, marks)
-}
+impl Text for Refused {
+    ghost bytes = { λ refused. refusal_text_at refused.refusal refused.position };
 
-fn put_position(out: &mut [u8], at: usize, position: Position) -> Option<usize>
-    ensures { Wrote out.old at (position_text position) out.new result }
-{
-    match position {
-        Position::Line(line) => put_labelled(out, at, b" line ", line as u64),
-        Position::Row(row) => put_labelled(out, at, b" row ", row as u64),
+    fn put(&self, out: &mut [u8], at: usize) -> Option<usize> {
+        let cause = ("refused ", self.refusal.number);
+        let place = (" at ", self.refusal.place);
+        (cause, place, self.position, "\n").put(out, at)
     }
-}
-
-fn put_refusal_at(out: &mut [u8], refusal: Refusal, position: Position) -> Option<usize>
-    ensures { Wrote out.old 0 (refusal_text_at refusal position) out.new result }
-{
-    let at = put_labelled(out, 0, b"refused ", refusal.number as u64)?;
-    let at = put_labelled(out, at, b" at ", refusal.place as u64)?;
-    let at = put_position(out, at, position)?;
-    put(out, at, b"\n")
-}
-
-fn put_refusal(out: &mut [u8], refusal: Refusal, line: usize) -> Option<usize>
-    ensures { Wrote out.old 0 (refusal_text refusal line) out.new result }
-{
-    put_refusal_at(out, refusal, Position::Line(line))
 }
 
 const TOO_SHORT: JobFault = JobFault {
@@ -110,26 +106,25 @@ const TOO_SHORT: JobFault = JobFault {
     place: 0,
 };
 
+fn print<T: Text>(out: &mut [u8], text: &T) -> Result<usize, JobFault>
+    ensures { Printed (T.bytes text.now) out.old out.new result }
+{
+    let room = out.len();
+    write_whole(text, room, out).ok_or(TOO_SHORT)
+}
+
 /// Prints a verdict: its word and its trials, and after found a line with the yes choices.
 pub fn print_verdict(out: &mut [u8], verdict: Verdict, marks: &[Mark]) -> Result<usize, JobFault>
     ensures { Printed (verdict_text verdict marks.now) out.old out.new result }
 {
-    let mut nothing: [u8; 0] = [];
-    if !has_room(put_verdict(&mut nothing, verdict, marks), out.len()) {
-        return Err(TOO_SHORT);
-    }
-    put_verdict(out, verdict, marks).ok_or(TOO_SHORT)
+    print(out, &Search { verdict, marks })
 }
 
 /// Prints the refusal of a file: its cause, its place and its line.
 pub fn print_refusal(out: &mut [u8], refusal: Refusal, line: usize) -> Result<usize, JobFault>
     ensures { Printed (refusal_text refusal line) out.old out.new result }
 {
-    let mut nothing: [u8; 0] = [];
-    if !has_room(put_refusal(&mut nothing, refusal, line), out.len()) {
-        return Err(TOO_SHORT);
-    }
-    put_refusal(out, refusal, line).ok_or(TOO_SHORT)
+    print_refusal_at(out, refusal, Position::Line(line))
 }
 
 /// Prints the refusal of a sheet: its cause, its place, and the line or row of that.
@@ -140,9 +135,5 @@ pub fn print_refusal_at(
 ) -> Result<usize, JobFault>
     ensures { Printed (refusal_text_at refusal position) out.old out.new result }
 {
-    let mut nothing: [u8; 0] = [];
-    if !has_room(put_refusal_at(&mut nothing, refusal, position), out.len()) {
-        return Err(TOO_SHORT);
-    }
-    put_refusal_at(out, refusal, position).ok_or(TOO_SHORT)
+    print(out, &Refused { refusal, position })
 }
