@@ -10,7 +10,8 @@ use Rattle.book.specs.declared.Mark.TheVariants.{Open, Yes, No}
 use Rattle.book.specs.declared.Reading.{Reading}
 use Rattle.book.specs.declared.Reading.TheVariants.{Broken, Quiet, Forced}
 use Rattle.book.specs.Books.{mark_of, open_mark}
-use Rattle.refusal.specs.declared.JobFault.{JobFault}
+use Rattle.refusal.specs.declared.At.{At}
+use Rattle.refusal.specs.declared.JobCause.{JobCause}
 use Rattle.solver.specs.declared.Ending.TheVariants.{Found, None as NoneAllowed, Spent}
 use Rattle.solver.specs.declared.Verdict.{Verdict}
 use Rattle.solver.specs.Outcome.{Says, Searched}
@@ -100,6 +101,6 @@ few_trials n s reads t a o v x says =
       ample = λ h e. (ends t a o v says (omega arith)).1 e;
     }
 
-pub searched_few : (n : ℕ) (s : Standing) (reads : List Mark → Reading) (a : ℕ) (ms ms' : List Mark) (w w' : List ℕ) (r : Result Verdict JobFault) → Searched n (job_reading s reads) a ms w ms' w' r → IfOk r (λ v. FewTrials n s a v)
+pub searched_few : (n : ℕ) (s : Standing) (reads : List Mark → Reading) (a : ℕ) (ms ms' : List Mark) (w w' : List ℕ) (r : Result Verdict (At JobCause)) → Searched n (job_reading s reads) a ms w ms' w' r → IfOk r (λ v. FewTrials n s a v)
 searched_few n s reads a ms ms' w w' (Ok v) f = few_trials n s reads f.needed a f.end v f.explores f.says
 searched_few n s reads a ms ms' w w' (Err e) f = tt

@@ -4,22 +4,22 @@ use Rattle.std.proofs.lemmas.List.{drop_more, drop_all}
 use Rattle.std.proofs.lemmas.Bool.{le-ltb}
 use Rattle.refusal.specs.declared.JobCause.{JobCause}
 use Rattle.refusal.specs.declared.JobCause.TheVariants.{Choice, NotRising}
-use Rattle.refusal.specs.declared.JobFault.{JobFault}
+use Rattle.refusal.specs.declared.At.{At}
 use Rattle.standing.specs.declared.Member.{Member}
 use Rattle.standing.specs.Steps.{member_cause, room_fault}
 use Rattle.standing.specs.Table.{refused, outside, member_fault, ban_fault}
 
 -- the cause at a member, or else what is said of the later ones
-abbrev told : Option JobCause → ℕ → Option JobFault → Option JobFault
+abbrev told : Option JobCause → ℕ → Option (At JobCause) → Option (At JobCause)
 told (Some c) i r = refused c i
 told None i r = r
 
-by_cause : (a b : Bool) (i : ℕ) (r : Option JobFault) → cond a (refused Choice i) (cond b (refused NotRising i) r) ≡ told (cond a (Some Choice) (cond b (Some NotRising) None)) i r
+by_cause : (a b : Bool) (i : ℕ) (r : Option (At JobCause)) → cond a (refused Choice i) (cond b (refused NotRising i) r) ≡ told (cond a (Some Choice) (cond b (Some NotRising) None)) i r
 by_cause true b i r = refl
 by_cause false true i r = refl
 by_cause false false i r = refl
 
-module _ (n p i : ℕ) (bs : List Member) (rest : Option JobFault) where
+module _ (n p i : ℕ) (bs : List Member) (rest : Option (At JobCause)) where
   stepped : (d : Member) → i < length bs → (o : Option JobCause) → o ≡ member_cause n p (get_or bs i d).choice → member_fault n p i (drop i bs) rest ≡ told o i (member_fault n (get_or bs i d).choice (i + 1) (drop (i + 1) bs) rest)
   stepped d h o e =
       rw (e, drop_more bs i d, add-one i) (by_cause (outside n (get_or bs i d).choice) (leb (get_or bs i d).choice p) i (member_fault n (get_or bs i d).choice (suc i) (drop (suc i) bs) rest))

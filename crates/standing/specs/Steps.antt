@@ -8,7 +8,7 @@ use Rattle.book.specs.declared.Reading.{Reading}
 use Rattle.book.specs.declared.Reading.TheVariants.{Broken, Quiet}
 use Rattle.refusal.specs.declared.JobCause.{JobCause}
 use Rattle.refusal.specs.declared.JobCause.TheVariants.{Choice, NotRising, BansFull}
-use Rattle.refusal.specs.declared.JobFault.{JobFault}
+use Rattle.refusal.specs.declared.At.{At}
 use Rattle.standing.specs.declared.Member.{Member}
 use Rattle.standing.specs.declared.bans.readings.Presence.{Presence}
 use Rattle.standing.specs.declared.bans.readings.Presence.TheVariants.{There, Open as OpenMember, Away}
@@ -24,7 +24,7 @@ abbrev pub member_cause : ℕ → ℕ → ℕ → Option JobCause
 member_cause n p c = cond (outside n c) (Some Choice) (cond (nat_le c p) (Some NotRising) None)
 
 -- what is said of a ban with sound members, where so many stand
-abbrev pub room_fault : ℕ → Option JobFault
+abbrev pub room_fault : ℕ → Option (At JobCause)
 room_fault count = cond (nat_le 64 count) (refused BansFull 0) None
 
 -- how a member stands, by the mark of its choice
