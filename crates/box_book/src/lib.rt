@@ -10,10 +10,11 @@ ghost use Rattle.box_book.specs.Meaning.{overlaps, clashes, Allowed};
 ghost use Rattle.box_book.specs.Readings.{is_yes, is_no, clashes_at, crowded_at, lost_at, blocked_at, alone_at, boxes_reading};
 ghost use Rattle.box_book.specs.Books.{boxes_of, size_of};
 ghost use Rattle.box_book.specs.Laws.{box_laws};
-ghost use Rattle.box_book.specs.Causes.{box_number, told_box, NumberFits, EdgesFit, Clean, FirstCause, NoFault, FirstFault, Sound};
+ghost use Rattle.refusal.specs.declared.Layer.TheVariants.{Box as BoxLayer};
+ghost use Rattle.box_book.specs.Causes.{box_number, NumberFits, EdgesFit, Clean, FirstCause, NoFault, FirstFault, Sound};
 
 use book::{Book, Mark, Reading, Unfit};
-use refusal::{Layer, Refusal};
+use refusal::{At, Cause, Layer};
 
 mod checked;
 mod marked;
@@ -66,34 +67,21 @@ pub enum BoxCause {
 }
 
 /// A fault of layer box. The place is the box, counted from 0.
-#[derive(Clone, Copy, PartialEq, Eq, Debug)]
-pub struct BoxFault {
-    pub cause: BoxCause,
-    pub place: usize,
-}
+pub type BoxFault = At<BoxCause>;
 
-impl BoxCause {
-    /// The number by which the table of refusals knows the cause.
-    pub fn number(self) -> u8
-        ensures { result ≡ box_number self }
-    {
+impl Cause for BoxCause {
+    ghost numbers = { box_number };
+
+    ghost LAYER = { BoxLayer };
+
+    const LAYER: Layer = Layer::Box;
+
+    fn number(self) -> u8 {
         match self {
             BoxCause::TooMany => 20,
             BoxCause::Name => 21,
             BoxCause::Edge => 22,
             BoxCause::NameFalls => 23,
-        }
-    }
-}
-
-impl From<BoxFault> for Refusal {
-    ghost from_gives = { λ f r. r ≡ told_box f };
-
-    fn from(fault: BoxFault) -> Refusal {
-        Refusal {
-            number: fault.cause.number(),
-            place: fault.place,
-            layer: Layer::Box,
         }
     }
 }
