@@ -1,11 +1,12 @@
 -- Which causes a box list has, and which of them is told.
 use Rattle.std.specs.Prelude.{◌≡◌, ℕ, zero, suc, ◌<◌, ◌≤◌, ◌⊎◌, List, length, ◌≢◌, slice_index_or}
+use Rattle.refusal.specs.Causes.{told}
+use Rattle.refusal.specs.declared.At.{At}
 use Rattle.refusal.specs.declared.Layer.TheVariants.{Box}
 use Rattle.refusal.specs.declared.Refusal.{Refusal}
 use Rattle.box_book.specs.declared.NameBox.{NameBox}
 use Rattle.box_book.specs.declared.BoxCause.{BoxCause}
 use Rattle.box_book.specs.declared.BoxCause.TheVariants.{TooMany, Name, Edge, NameFalls}
-use Rattle.box_book.specs.declared.BoxFault.{BoxFault}
 
 abbrev pub box_number : BoxCause → ℕ
 box_number TooMany = 20
@@ -13,8 +14,8 @@ box_number Name = 21
 box_number Edge = 22
 box_number NameFalls = 23
 
-abbrev pub told_box : BoxFault → Refusal
-told_box f = record { number = box_number f.cause; place = f.place; layer = Box }
+abbrev pub told_box : At BoxCause → Refusal
+told_box = told box_number Box
 
 -- what stands past the end of a list
 abbrev pub no_box : NameBox
@@ -76,18 +77,11 @@ Leads Edge p d k = (d ≢ TooMany) × ((p < k) ⊎ ((p ≡ k) × (22 ≤ box_num
 Leads NameFalls p d k = (d ≢ TooMany) × ((p < k) ⊎ ((p ≡ k) × (23 ≤ box_number d)))
 
 -- the fault that is told: of all that are there, the one that leads
-abbrev pub FirstFault : List NameBox → BoxFault → Type 0
+abbrev pub FirstFault : List NameBox → At BoxCause → Type 0
 FirstFault bs f = CauseAt bs f.cause f.place × ((d : BoxCause) (k : ℕ) → CauseAt bs d k → Leads f.cause f.place d k)
 
 abbrev pub NamesFit : List NameBox → Type 0
 NamesFit bs = (k : ℕ) → k < length bs → NameFits (box_at bs k)
-
--- the edges of each box fit, side by side and from top to bottom
-abbrev pub SidesFit : List NameBox → Type 0
-SidesFit bs = (k : ℕ) → k < length bs → ((box_at bs k).left < (box_at bs k).right) × ((box_at bs k).right ≤ 20000)
-
-abbrev pub HeightsFit : List NameBox → Type 0
-HeightsFit bs = (k : ℕ) → k < length bs → ((box_at bs k).top < (box_at bs k).bottom) × ((box_at bs k).bottom ≤ 20000)
 
 -- names never fall along the list
 abbrev pub Rises : List NameBox → Type 0

@@ -1,6 +1,8 @@
 -- What a test of the places of a list says.
-use Rattle.std.proofs.Common.{◌≡◌, ℕ, zero, suc, ◌<◌, ◌≤◌, Bool, true, false, cond, ◌⊎◌, Decides, sym, refl, inl, inr, arith}
-use Rattle.std.proofs.lemmas.Bool.{cases_lt, cases_order, both_ways}
+use Rattle.std.proofs.Common.{◌≡◌, ℕ, zero, suc, ◌<◌, ◌≤◌, Bool, true, false, cond, ◌⊎◌, Decides, Some, None, Option, sym, refl, ap, subst, inl, inr, arith}
+use Rattle.std.specs.Option.{option_map}
+use Rattle.std.specs.Str.TwoWay.{IsFirst}
+use Rattle.std.proofs.lemmas.Bool.{cases_order, both_ways}
 use Rattle.std.proofs.lemmas.Bool.Decides.{Decides-below_or}
 use Rattle.box_book.specs.Places.{some_below, first_below}
 
@@ -21,50 +23,41 @@ module _ (p : ℕ → Bool) (n : ℕ) where
   pub some_false : some_below p n ≡ false → (k : ℕ) → k < n → p k ≡ false
   some_false e k h = bool_false (p k) (λ q. both_ways (some_below p n) e (some_from k h q))
 
-  pub none_false : ((k : ℕ) → k < n → p k ≡ false) → some_below p n ≡ false
-  none_false f = bool_false (some_below p n) (λ e. let x = some_true e in both_ways (p x.0) (f x.0 x.1) x.2)
+  pub none_false : ((k : ℕ) → k < n → p k ≡ true → ⊥) → some_below p n ≡ false
+  none_false f = bool_false (some_below p n) (λ e. let x = some_true e in f x.0 x.1 x.2)
 
-pub record IsFirst (p : ℕ → Bool) (n r : ℕ) : Type 0 where
-  pub within : r ≤ n
-  pub before : (k : ℕ) → k < r → p k ≡ false
-  pub here : r < n → p r ≡ true
-
-pub first_is : (p : ℕ → Bool) (n : ℕ) → IsFirst p n (first_below p n)
-first_is p zero = record { within = omega arith; before = λ k h. absurd (omega arith); here = λ h. absurd (omega arith) }
+pub first_is : (p : ℕ → Bool) (n : ℕ) → IsFirst (λ k. p k ≡ true) 0 n (first_below p n)
+first_is p zero = λ k l h. absurd (omega arith)
 first_is p (suc n) = by (p zero) refl (first_below (λ k. p (suc k)) n) (first_is (λ k. p (suc k)) n)
   where
-    later : p zero ≡ false → (f : ℕ) → IsFirst (λ k. p (suc k)) n f → (k : ℕ) → k < suc f → p k ≡ false
-    later e f i zero h = e
-    later e f i (suc k) h = i.before k (omega arith)
+    later : (m : ℕ) → p zero ≡ false → ((k : ℕ) → 0 ≤ k → k < m → p (suc k) ≡ true → ⊥) → (k : ℕ) → 0 ≤ k → k < suc m → p k ≡ true → ⊥
+    later m e f zero l h q = both_ways (p zero) e q
+    later m e f (suc k) l h q = f k (omega arith) (omega arith) q
 
-    by : (b : Bool) → p zero ≡ b → (f : ℕ) → IsFirst (λ k. p (suc k)) n f → IsFirst p (suc n) (cond b zero (suc f))
-    by true e f i = record { within = omega arith; before = λ k h. absurd (omega arith); here = λ h. e }
-    by false e f i = record { within = omega (arith, i.within); before = later e f i; here = λ h. i.here (omega arith) }
+    by : (b : Bool) → p zero ≡ b → (o : Option ℕ) → IsFirst (λ k. p (suc k) ≡ true) 0 n o → IsFirst (λ k. p k ≡ true) 0 (suc n) (cond b (Some zero) (option_map suc o))
+    by true e o i = (record { low = omega arith; high = omega arith; before = λ k l h. absurd (omega arith) }, e)
+    by false e None i = later n e i
+    by false e (Some r) i = (record { low = omega arith; high = omega (arith, i.0.high); before = later r e i.0.before }, i.1)
 
-one_first : (p : ℕ → Bool) (n r s : ℕ) → IsFirst p n r → IsFirst p n s → r ≡ s
-one_first p n r s x y = by (cases_order r s)
-  where
-    by : (r ≡ s) ⊎ ((r < s) ⊎ (s < r)) → r ≡ s
-    by (inl e) = e
-    by (inr (inl h)) = absurd (both_ways (p r) (y.before r h) (x.here (omega (arith, y.within))))
-    by (inr (inr h)) = absurd (both_ways (p s) (x.before s h) (y.here (omega (arith, x.within))))
+pub first_within : (p : ℕ → Bool) (n k : ℕ) → Some k ≡ first_below p n → k < n
+first_within p n k e = let x : IsFirst (λ j. p j ≡ true) 0 n (Some k) = subst (IsFirst (λ j. p j ≡ true) 0 n) (sym e) (first_is p n) in x.0.high
 
--- a place that is the first is what `first_below` gives
-pub first_from : (p : ℕ → Bool) (n r : ℕ) → IsFirst p n r → r ≡ first_below p n
-first_from p n r x = one_first p n r (first_below p n) x (first_is p n)
+-- A property of places that a test decides.
+module _ (P : ℕ → Type 0) (p : ℕ → Bool) (n : ℕ) (to : (k : ℕ) → k < n → P k → p k ≡ true) (from : (k : ℕ) → k < n → p k ≡ true → P k) where
+  pub some_by : (b : Bool) → Decides b ((k : ℕ) × (k < n) × P k) → b ≡ some_below p n
+  some_by true d = let x = d.0 refl in sym (some_from p n x.0 x.1 (to x.0 x.1 x.2))
+  some_by false d = sym (none_false p n (λ k h e. both_ways false refl (d.1 (k, h, from k h e))))
 
-pub some_found : (p : ℕ → Bool) (n k : ℕ) → k < n → p k ≡ true → true ≡ some_below p n
-some_found p n k h e = sym (some_from p n k h e)
+  one_first : (r s : Option ℕ) → IsFirst P 0 n r → IsFirst (λ k. p k ≡ true) 0 n s → r ≡ s
+  one_first None None x y = refl
+  one_first None (Some b) x y = absurd (x b y.0.low y.0.high (from b y.0.high y.1))
+  one_first (Some a) None x y = absurd (y a x.0.low x.0.high (to a x.0.high x.1))
+  one_first (Some a) (Some b) x y = ap Some (by (cases_order a b))
+    where
+      by : (a ≡ b) ⊎ ((a < b) ⊎ (b < a)) → a ≡ b
+      by (inl e) = e
+      by (inr (inl h)) = absurd (y.0.before a x.0.low h (to a x.0.high x.1))
+      by (inr (inr h)) = absurd (x.0.before b y.0.low h (from b y.0.high y.1))
 
-pub some_none : (p : ℕ → Bool) (n : ℕ) → ((k : ℕ) → k < n → p k ≡ false) → false ≡ some_below p n
-some_none p n f = sym (none_false p n f)
-
-pub first_found : (p : ℕ → Bool) (n k : ℕ) → k < n → ((j : ℕ) → j < k → p j ≡ false) → p k ≡ true → k ≡ first_below p n
-first_found p n k h f e = first_from p n k (record { within = omega arith; before = f; here = λ x. e })
-
-pub first_none : (p : ℕ → Bool) (n : ℕ) → ((j : ℕ) → j < n → p j ≡ false) → n ≡ first_below p n
-first_none p n f = first_from p n n (record { within = omega arith; before = f; here = λ x. absurd (omega arith) })
-
--- what fails before s, and from s up to e, fails before e
-pub upto : (p : ℕ → Bool) (s e : ℕ) → ((k : ℕ) → k < s → p k ≡ false) → ((k : ℕ) → s ≤ k → k < e → p k ≡ false) → (k : ℕ) → k < e → p k ≡ false
-upto p s e f g k h = elim (cases_lt k s) [ inl l ↦ f k l | inr l ↦ g k l h ]
+  pub first_by : (r : Option ℕ) → IsFirst P 0 n r → r ≡ first_below p n
+  first_by r x = one_first r (first_below p n) x (first_is p n)

@@ -1,6 +1,7 @@
 -- The laws of books, for every box list that is not too long.
-use Rattle.std.proofs.Common.{◌≡◌, ℕ, ◌+◌, ◌-◌, ◌<◌, ◌≤◌, Bool, true, false, cond, not, ◌&&◌, ◌||◌, eqb, ltb, ◌⊎◌, List, length, sym, refl, ap, ◌∙◌, subst, inl, inr, arith}
-use Rattle.std.proofs.lemmas.Bool.{cases_order, cases_eq, both_ways, true≢false, false≢true, not-true, not-false, ltb-true, eqb-true, eq-eqb, ne_eqb, and_parts, and_from, or_cases, or_parts}
+use Rattle.std.proofs.Common.{◌≡◌, ℕ, ◌+◌, ◌-◌, ◌<◌, ◌≤◌, Bool, true, false, cond, not, ◌&&◌, ◌||◌, eqb, ltb, ◌⊎◌, List, length, Some, None, Option, sym, refl, ap, ◌∙◌, subst, inl, inr, arith}
+use Rattle.std.specs.Str.TwoWay.{IsFirst}
+use Rattle.std.proofs.lemmas.Bool.{cases_order, cases_eq, both_ways, true≢false, false≢true, not-true, not-false, eqb-true, eq-eqb, ne_eqb, and_parts, and_from, or_cases, or_parts}
 use Rattle.book.specs.declared.Mark.{Mark}
 use Rattle.book.specs.declared.Mark.TheVariants.{Open, Yes, No}
 use Rattle.book.specs.declared.Answer.{Answer}
@@ -13,20 +14,20 @@ use Rattle.box_book.specs.Causes.{box_at}
 use Rattle.box_book.specs.Places.{some_below, first_below}
 use Rattle.box_book.specs.Meaning.{overlaps, clashes, mark_at, Allowed}
 use Rattle.box_book.specs.Readings.{is_yes, is_no, clashes_at, clashed, crowded_at, crowded, keeps_at, lost_at, lost, blocked_at, rivals_at, alone_at, pressed, boxes_reading}
-use Rattle.box_book.specs.Finds.{some_true, some_from, some_false, IsFirst, first_is}
+use Rattle.box_book.specs.Finds.{some_true, some_from, some_false, first_is}
 
 -- marks by their tests
-yes_is : (m : Mark) → is_yes m ≡ true → m ≡ Yes
+pub yes_is : (m : Mark) → is_yes m ≡ true → m ≡ Yes
 yes_is Open e = absurd (false≢true e)
 yes_is Yes e = refl
 yes_is No e = absurd (false≢true e)
 
-no_is : (m : Mark) → is_no m ≡ true → m ≡ No
+pub no_is : (m : Mark) → is_no m ≡ true → m ≡ No
 no_is Open e = absurd (false≢true e)
 no_is Yes e = absurd (false≢true e)
 no_is No e = refl
 
-open_is : (m : Mark) → open_mark m ≡ true → m ≡ Open
+pub open_is : (m : Mark) → open_mark m ≡ true → m ≡ Open
 open_is Open e = refl
 open_is Yes e = absurd (false≢true e)
 open_is No e = absurd (false≢true e)
@@ -53,7 +54,7 @@ swap_and true false r s = refl
 swap_and false true r s = refl
 swap_and false false r s = refl
 
-overlaps_swap : (a b : NameBox) → overlaps a b ≡ overlaps b a
+pub overlaps_swap : (a b : NameBox) → overlaps a b ≡ overlaps b a
 overlaps_swap a b = swap_and (ltb a.left b.right) (ltb b.left a.right) (ltb a.top b.bottom) (ltb b.top a.bottom)
 
 -- the ways in which a list comes to its reading
@@ -67,18 +68,15 @@ data Way (bs : List NameBox) (ms : List Mark) : Reading → Type 0 where
 way : (bs : List NameBox) (ms : List Mark) → Way bs ms (boxes_reading bs ms)
 way bs ms = by (crowded bs ms) (lost bs ms) refl refl
   where
-    press : (b a : ℕ) → IsFirst (blocked_at bs ms) (length bs) b → IsFirst (alone_at bs ms) (length bs) a → crowded bs ms ≡ false → lost bs ms ≡ false → (x y : Bool) → ltb b (length bs) ≡ x → ltb a (length bs) ≡ y → Way bs ms (cond x (Forced (b + 1) AnswerNo) (cond y (Forced (a + 1) AnswerYes) Quiet))
-    press b a fb fa ec el true y ex ey = let h = ltb-true b (length bs) ex in block b h (fb.here h)
-    press b a fb fa ec el false true ex ey = let h = ltb-true a (length bs) ey in lone a h (fa.here h)
-    press b a fb fa ec el false false ex ey = calm ec el
+    press : (b a : Option ℕ) → IsFirst (λ k. blocked_at bs ms k ≡ true) 0 (length bs) b → IsFirst (λ k. alone_at bs ms k ≡ true) 0 (length bs) a → crowded bs ms ≡ false → lost bs ms ≡ false → Way bs ms (pressed b a)
+    press (Some b) a fb fa ec el = block b fb.0.high fb.1
+    press None (Some a) fb fa ec el = lone a fa.0.high fa.1
+    press None None fb fa ec el = calm ec el
 
-    by : (c l : Bool) → crowded bs ms ≡ c → lost bs ms ≡ l → Way bs ms (cond (c || l) Broken (pressed (length bs) (first_below (blocked_at bs ms) (length bs)) (first_below (alone_at bs ms) (length bs))))
+    by : (c l : Bool) → crowded bs ms ≡ c → lost bs ms ≡ l → Way bs ms (cond (c || l) Broken (pressed (first_below (blocked_at bs ms) (length bs)) (first_below (alone_at bs ms) (length bs))))
     by true l ec el = crowd ec
     by false true ec el = gone el
-    by false false ec el =
-        let b = first_below (blocked_at bs ms) (length bs) in
-        let a = first_below (alone_at bs ms) (length bs) in
-        press b a (first_is (blocked_at bs ms) (length bs)) (first_is (alone_at bs ms) (length bs)) ec el (ltb b (length bs)) (ltb a (length bs)) refl refl
+    by false false ec el = press (first_below (blocked_at bs ms) (length bs)) (first_below (alone_at bs ms) (length bs)) (first_is (blocked_at bs ms) (length bs)) (first_is (alone_at bs ms) (length bs)) ec el
 
 module _ (bs : List NameBox) (a : List Mark) (h : Allowed bs a) where
   -- yes boxes do not clash
@@ -108,7 +106,7 @@ module _ (bs : List NameBox) (a : List Mark) (h : Allowed bs a) where
     not_crowded e =
         let k = some_true (crowded_at bs ms) (length bs) e in
         let p = and_parts (is_yes (mark_at ms k.0)) (clashed bs ms k.0 (box_at bs k.0)) k.2 in
-        let j = some_true (clashes_at bs ms (box_at bs k.0)) k.0 p.1 in
+        let j = some_true (clashes_at bs ms Yes (box_at bs k.0)) k.0 p.1 in
         let q = and_parts (is_yes (mark_at ms j.0)) (clashes (box_at bs j.0) (box_at bs k.0)) j.2 in
         no_clash j.0 k.0 (omega (arith, j.1, k.1)) k.1 (λ z. omega (arith, j.1)) (grown_yes j.0 q.0) (grown_yes k.0 p.0) q.1
 
@@ -129,7 +127,7 @@ module _ (bs : List NameBox) (a : List Mark) (h : Allowed bs a) where
     blocked_no : (k : ℕ) → k < length bs → blocked_at bs ms k ≡ true → mark_at a k ≡ No
     blocked_no k l e =
         let p = and_parts (open_mark (mark_at ms k)) (clashed bs ms (length bs) (box_at bs k)) e in
-        let j = some_true (clashes_at bs ms (box_at bs k)) (length bs) p.1 in
+        let j = some_true (clashes_at bs ms Yes (box_at bs k)) (length bs) p.1 in
         let q = and_parts (is_yes (mark_at ms j.0)) (clashes (box_at bs j.0) (box_at bs k)) j.2 in
         must_no (mark_at a k) (h.settled k (omega (arith, h.sized))) (λ y. no_clash j.0 k j.1 l (λ z. apart j.0 z q.0 p.0) (grown_yes j.0 q.0) y q.1)
       where
@@ -191,7 +189,7 @@ module _ (bs : List NameBox) (ms : List Mark) (sized : length ms ≡ length bs) 
       by : (b : Bool) → clashes (box_at bs j) (box_at bs k) ≡ b → b ≡ false
       by true e =
           let p = and_from (is_yes (mark_at ms j)) (clashes (box_at bs j) (box_at bs k)) (ap is_yes yj) e in
-          let q = some_from (clashes_at bs ms (box_at bs k)) k j lj p in
+          let q = some_from (clashes_at bs ms Yes (box_at bs k)) k j lj p in
           let r = and_from (is_yes (mark_at ms k)) (clashed bs ms k (box_at bs k)) (ap is_yes yk) q in
           absurd (both_ways (crowded_at bs ms k) (some_false (crowded_at bs ms) (length bs) ec k lk) r)
       by false e = refl

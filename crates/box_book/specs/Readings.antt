@@ -1,5 +1,5 @@
 -- The reading of a box list.
-use Rattle.std.specs.Prelude.{ℕ, ◌+◌, Bool, true, false, cond, not, ◌&&◌, ◌||◌, List, length, ◌==◌, nat_lt}
+use Rattle.std.specs.Prelude.{ℕ, ◌+◌, Bool, true, false, cond, not, ◌&&◌, ◌||◌, List, length, ◌==◌, Some, None, Option}
 use Rattle.book.specs.declared.Mark.{Mark}
 use Rattle.book.specs.declared.Mark.TheVariants.{Open, Yes, No}
 use Rattle.book.specs.declared.Answer.TheVariants.{Yes as AnswerYes, No as AnswerNo}
@@ -21,13 +21,19 @@ is_no Open = false
 is_no Yes = false
 is_no No = true
 
--- the box at j is a yes box that clashes with b
-abbrev pub clashes_at : List NameBox → List Mark → NameBox → ℕ → Bool
-clashes_at bs ms b j = is_yes (mark_at ms j) && clashes (box_at bs j) b
+-- whether a mark is the first of these
+abbrev pub is_mark : Mark → Mark → Bool
+is_mark Open m = open_mark m
+is_mark Yes m = is_yes m
+is_mark No m = is_no m
+
+-- the box at j has that mark and clashes with b
+abbrev pub clashes_at : List NameBox → List Mark → Mark → NameBox → ℕ → Bool
+clashes_at bs ms m b j = is_mark m (mark_at ms j) && clashes (box_at bs j) b
 
 -- a yes box before place n clashes with b
 abbrev pub clashed : List NameBox → List Mark → ℕ → NameBox → Bool
-clashed bs ms n b = some_below (clashes_at bs ms b) n
+clashed bs ms n b = some_below (clashes_at bs ms Yes b) n
 
 -- the box at k is a yes box, and clashes with a yes box before it
 abbrev pub crowded_at : List NameBox → List Mark → ℕ → Bool
@@ -61,10 +67,12 @@ rivals_at bs ms k j = not (j == k) && keeps_at bs ms (box_at bs k).name j
 abbrev pub alone_at : List NameBox → List Mark → ℕ → Bool
 alone_at bs ms k = open_mark (mark_at ms k) && not (some_below (rivals_at bs ms k) (length bs))
 
--- by the first open box that clashes with a yes box, and the first that is alone: the length of the list if there is none
-abbrev pub pressed : ℕ → ℕ → ℕ → Reading
-pressed n blocked alone = cond (nat_lt blocked n) (Forced (blocked + 1) AnswerNo) (cond (nat_lt alone n) (Forced (alone + 1) AnswerYes) Quiet)
+-- by the first open box that clashes with a yes box, and else by the first that is alone
+abbrev pub pressed : Option ℕ → Option ℕ → Reading
+pressed (Some k) alone = Forced (k + 1) AnswerNo
+pressed None (Some k) = Forced (k + 1) AnswerYes
+pressed None None = Quiet
 
 -- names never fall along the list, so that the first box that is alone is that of the first name that has one
 abbrev pub boxes_reading : List NameBox → List Mark → Reading
-boxes_reading bs ms = cond (crowded bs ms || lost bs ms) Broken (pressed (length bs) (first_below (blocked_at bs ms) (length bs)) (first_below (alone_at bs ms) (length bs)))
+boxes_reading bs ms = cond (crowded bs ms || lost bs ms) Broken (pressed (first_below (blocked_at bs ms) (length bs)) (first_below (alone_at bs ms) (length bs)))

@@ -1,5 +1,5 @@
-ghost use Rattle.std.specs.Prelude.{◌≡◌, ◌≤◌, [], length};
-ghost use Rattle.box_book.specs.Causes.{Sound, NamesFit, SidesFit, HeightsFit, Rises};
+ghost use Rattle.std.specs.Prelude.{◌≡◌, []};
+ghost use Rattle.box_book.specs.Causes.{Sound};
 
 use super::{NameBox, check_boxes};
 
@@ -7,11 +7,7 @@ use super::{NameBox, check_boxes};
 #[derive(Clone, Copy)]
 pub struct BoxBook<'a> {
     boxes: &'a [NameBox],
-    ghost few: { length boxes.now ≤ 4096 },
-    ghost names: { NamesFit boxes.now },
-    ghost sides: { SidesFit boxes.now },
-    ghost heights: { HeightsFit boxes.now },
-    ghost rises: { Rises boxes.now },
+    ghost sound: { Sound boxes.now },
 }
 
 impl<'a> BoxBook<'a> {
@@ -20,9 +16,10 @@ impl<'a> BoxBook<'a> {
         ensures sound { Sound boxes.now → result.boxes.now ≡ boxes.now }
         ensures unsound { (Sound boxes.now → ⊥) → result.boxes.now ≡ [] }
     {
-        match check_boxes(boxes) {
-            Ok(()) => BoxBook { boxes },
-            Err(_) => BoxBook { boxes: &boxes[..0] },
+        if check_boxes(boxes).is_ok() {
+            BoxBook { boxes }
+        } else {
+            BoxBook { boxes: &[] }
         }
     }
 

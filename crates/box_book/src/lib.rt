@@ -9,16 +9,18 @@ ghost use Rattle.box_book.specs.Places.{some_below, first_below};
 ghost use Rattle.box_book.specs.Meaning.{overlaps, clashes, Allowed};
 ghost use Rattle.box_book.specs.Readings.{is_yes, is_no, clashes_at, crowded_at, lost_at, blocked_at, alone_at, boxes_reading};
 ghost use Rattle.box_book.specs.Books.{boxes_of, size_of};
-ghost use Rattle.box_book.specs.Runs.{RunEnd, FirstKept, open_clash};
 ghost use Rattle.box_book.specs.Laws.{box_laws};
-ghost use Rattle.box_book.specs.Causes.{box_number, told_box, NumberFits, Clean, FirstCause, NoFault, FirstFault, Sound};
+ghost use Rattle.refusal.specs.declared.Layer.TheVariants.{Box as BoxLayer};
+ghost use Rattle.box_book.specs.Causes.{box_number, NumberFits, EdgesFit, Clean, FirstCause, NoFault, FirstFault, Sound};
 
-use book::{Answer, Book, Mark, Reading, Unfit};
-use refusal::{Layer, Refusal};
+use book::{Book, Mark, Reading, Unfit};
+use refusal::{At, Cause, Layer};
 
 mod checked;
+mod marked;
 
 pub use checked::BoxBook;
+use marked::Marked;
 
 /// The kind number of a box book.
 pub const BOX_KIND: u16 = 2;
@@ -65,17 +67,16 @@ pub enum BoxCause {
 }
 
 /// A fault of layer box. The place is the box, counted from 0.
-#[derive(Clone, Copy, PartialEq, Eq, Debug)]
-pub struct BoxFault {
-    pub cause: BoxCause,
-    pub place: usize,
-}
+pub type BoxFault = At<BoxCause>;
 
-impl BoxCause {
-    /// The number by which the table of refusals knows the cause.
-    pub fn number(self) -> u8
-        ensures { result ≡ box_number self }
-    {
+impl Cause for BoxCause {
+    ghost numbers = { box_number };
+
+    ghost LAYER = { BoxLayer };
+
+    const LAYER: Layer = Layer::Box;
+
+    fn number(self) -> u8 {
         match self {
             BoxCause::TooMany => 20,
             BoxCause::Name => 21,
@@ -85,23 +86,11 @@ impl BoxCause {
     }
 }
 
-impl From<BoxFault> for Refusal {
-    ghost from_gives = { λ f r. r ≡ told_box f };
-
-    fn from(fault: BoxFault) -> Refusal {
-        Refusal {
-            number: fault.cause.number(),
-            place: fault.place,
-            layer: Layer::Box,
-        }
-    }
-}
-
 /// Whether a name may have that number.
 pub fn name_fits(name: u16) -> bool
     ensures { Decides result (NumberFits name) }
 {
-    name >= 1 && name <= NAME_LIMIT
+    (1..=NAME_LIMIT).contains(&name)
 }
 
 impl NameBox {
@@ -122,26 +111,29 @@ impl NameBox {
         self.name == other.name || self.overlaps(other)
     }
 
+    /// Whether the box may have these edges.
+    fn edges_fit(self) -> bool
+        ensures { Decides result (EdgesFit self) }
+    {
+        self.left < self.right
+            && self.right <= EDGE_LIMIT
+            && self.top < self.bottom
+            && self.bottom <= EDGE_LIMIT
+    }
+
     /// What is wrong with the box, where the box before it has that name. The first box follows name 0.
     pub fn fault(self, before: u16) -> Option<BoxCause>
         ensures { MatchOption result (Clean self before) (FirstCause self before) }
     {
-        if self.name == 0 || self.name > NAME_LIMIT {
-            return Some(BoxCause::Name);
+        if !name_fits(self.name) {
+            Some(BoxCause::Name)
+        } else if !self.edges_fit() {
+            Some(BoxCause::Edge)
+        } else if self.name < before {
+            Some(BoxCause::NameFalls)
+        } else {
+            None
         }
-        if self.left > EDGE_LIMIT
-            || self.top > EDGE_LIMIT
-            || self.right > EDGE_LIMIT
-            || self.bottom > EDGE_LIMIT
-            || self.left >= self.right
-            || self.top >= self.bottom
-        {
-            return Some(BoxCause::Edge);
-        }
-        if self.name < before {
-            return Some(BoxCause::NameFalls);
-        }
-        None
     }
 }
 
@@ -157,171 +149,13 @@ pub fn check_boxes(boxes: &[NameBox]) -> Result<(), BoxFault>
         });
     }
     let mut before = 0;
-    for (i, b) in boxes.iter().enumerate() {
+    for (place, b) in boxes.iter().enumerate() {
         if let Some(cause) = b.fault(before) {
-            return Err(BoxFault { cause, place: i });
+            return Err(BoxFault { cause, place });
         }
         before = b.name;
     }
     Ok(())
-}
-
-/// Whether the mark is yes.
-fn is_yes(mark: Mark) -> bool
-    ensures { result ≡ is_yes mark }
-{
-    match mark {
-        Mark::Yes => true,
-        Mark::Open | Mark::No => false,
-    }
-}
-
-/// Whether the mark is no.
-fn is_no(mark: Mark) -> bool
-    ensures { result ≡ is_no mark }
-{
-    match mark {
-        Mark::No => true,
-        Mark::Open | Mark::Yes => false,
-    }
-}
-
-/// Whether a yes box before place `end` clashes with `b`.
-fn clashed(boxes: &[NameBox], marks: &[Mark], end: usize, b: NameBox) -> bool
-    requires fit { length marks.now ≡ length boxes.now }
-    requires within { end ≤ length boxes.now }
-    ensures { result ≡ some_below (clashes_at boxes.now marks.now b) end }
-{
-    for j in 0..end {
-        if is_yes(marks[j]) && boxes[j].clashes(b) {
-            return true;
-        }
-    }
-    false
-}
-
-/// Whether two yes boxes clash.
-fn crowded(boxes: &[NameBox], marks: &[Mark]) -> bool
-    requires { length marks.now ≡ length boxes.now }
-    ensures { result ≡ some_below (crowded_at boxes.now marks.now) (length boxes.now) }
-{
-    for (k, b) in boxes.iter().enumerate() {
-        if is_yes(marks[k]) && clashed(boxes, marks, k, *b) {
-            return true;
-        }
-    }
-    false
-}
-
-/// The first open box before place `end` that clashes with `b`; `end` if there is none.
-fn first_clashing(boxes: &[NameBox], marks: &[Mark], b: NameBox, end: usize) -> usize
-    requires fit { length marks.now ≡ length boxes.now }
-    requires within { end ≤ length boxes.now }
-    ensures { result ≡ first_below (open_clash boxes.now marks.now b) end }
-{
-    for k in 0..end {
-        if marks[k].is_open() && b.clashes(boxes[k]) {
-            return k;
-        }
-    }
-    end
-}
-
-/// The first open box that clashes with a yes box; the number of boxes if there is none.
-fn first_blocked(boxes: &[NameBox], marks: &[Mark]) -> usize
-    requires { length marks.now ≡ length boxes.now }
-    ensures { result ≡ first_below (blocked_at boxes.now marks.now) (length boxes.now) }
-{
-    let mut first = boxes.len();
-    for (j, b) in boxes.iter().enumerate() {
-        if is_yes(marks[j]) {
-            first = first_clashing(boxes, marks, *b, first);
-        }
-    }
-    first
-}
-
-/// Where the run of the name at `start` ends: the first place after it with another name, or the end of the list.
-fn run_end(boxes: &[NameBox], start: usize) -> usize
-    requires { start < length boxes.now }
-    ensures { RunEnd boxes.now start result }
-{
-    let name = boxes[start].name;
-    for k in start + 1..boxes.len() {
-        if boxes[k].name != name {
-            return k;
-        }
-    }
-    boxes.len()
-}
-
-/// The first place from `start` up to `end` that is not marked no; `end` if there is none.
-fn first_kept(marks: &[Mark], start: usize, end: usize) -> usize
-    requires order { start ≤ end }
-    requires within { end ≤ length marks.now }
-    ensures { FirstKept marks.now start end result }
-{
-    for k in start..end {
-        if !is_no(marks[k]) {
-            return k;
-        }
-    }
-    end
-}
-
-/// Whether all boxes of some name are no.
-fn some_name_lost(boxes: &[NameBox], marks: &[Mark]) -> bool
-    requires fit { length marks.now ≡ length boxes.now }
-    requires sound { Sound boxes.now }
-    ensures { result ≡ some_below (lost_at boxes.now marks.now) (length boxes.now) }
-{
-    let mut start = 0;
-    while start < boxes.len() {
-        let end = run_end(boxes, start);
-        if first_kept(marks, start, end) == end {
-            return true;
-        }
-        start = end;
-    }
-    false
-}
-
-/// The first open box with all other boxes of its name no; the number of boxes if there is none.
-fn first_alone(boxes: &[NameBox], marks: &[Mark]) -> usize
-    requires fit { length marks.now ≡ length boxes.now }
-    requires sound { Sound boxes.now }
-    ensures { result ≡ first_below (alone_at boxes.now marks.now) (length boxes.now) }
-{
-    let mut start = 0;
-    while start < boxes.len() {
-        let end = run_end(boxes, start);
-        let kept = first_kept(marks, start, end);
-        if kept < end && marks[kept].is_open() && first_kept(marks, kept + 1, end) == end {
-            return kept;
-        }
-        start = end;
-    }
-    boxes.len()
-}
-
-/// The reading of marks, one for each box.
-fn reading(boxes: &[NameBox], marks: &[Mark]) -> Reading
-    requires fit { length marks.now ≡ length boxes.now }
-    requires sound { Sound boxes.now }
-    ensures { result ≡ boxes_reading boxes.now marks.now }
-{
-    if crowded(boxes, marks) || some_name_lost(boxes, marks) {
-        return Reading::Broken;
-    }
-    let blocked = first_blocked(boxes, marks);
-    if blocked < boxes.len() {
-        return Reading::Forced(blocked as u16 + 1, Answer::No);
-    }
-    let alone = first_alone(boxes, marks);
-    if alone < boxes.len() {
-        return Reading::Forced(alone as u16 + 1, Answer::Yes);
-    }
-    Reading::Quiet
 }
 
 impl<'a> Book for BoxBook<'a> {
@@ -335,7 +169,7 @@ impl<'a> Book for BoxBook<'a> {
 
     ghost reads = { λ b ms. boxes_reading (boxes_of b) ms };
 
-    ghost lawful = { λ b. box_laws (boxes_of b) b.few };
+    ghost lawful = { λ b. box_laws (boxes_of b) b.sound.few };
 
     fn kind_number(&self) -> u16 {
         BOX_KIND
@@ -349,6 +183,10 @@ impl<'a> Book for BoxBook<'a> {
         if marks.len() != self.boxes().len() {
             return Err(Unfit);
         }
-        Ok(reading(self.boxes(), marks))
+        let marked = Marked {
+            boxes: self.boxes(),
+            marks,
+        };
+        Ok(marked.reading())
     }
 }

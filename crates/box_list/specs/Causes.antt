@@ -3,7 +3,7 @@ use Rattle.std.specs.Prelude.{◌≡◌, ℕ, zero, suc, ◌<◌, List, length, 
 use Rattle.box_book.specs.declared.NameBox.{NameBox}
 use Rattle.box_book.specs.declared.BoxCause.{BoxCause}
 use Rattle.box_book.specs.declared.BoxCause.TheVariants.{TooMany, Name, Edge, NameFalls}
-use Rattle.box_book.specs.declared.BoxFault.{BoxFault}
+use Rattle.refusal.specs.declared.At.{At}
 use Rattle.box_book.specs.Causes.{NumberFits, EdgesFit, Leads}
 use Rattle.box_list.specs.Spelling.{row_at, cell, SpellsEdges}
 
@@ -31,5 +31,5 @@ abbrev pub NoFault : List (List ℕ) → Type 0
 NoFault rows = (c : BoxCause) (k : ℕ) → CauseAt rows c k → ⊥
 
 -- the fault that is told: of all that are there, the one that leads
-abbrev pub FirstFault : List (List ℕ) → BoxFault → Type 0
+abbrev pub FirstFault : List (List ℕ) → At BoxCause → Type 0
 FirstFault rows f = CauseAt rows f.cause f.place × ((d : BoxCause) (k : ℕ) → CauseAt rows d k → Leads f.cause f.place d k)
