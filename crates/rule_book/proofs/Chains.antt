@@ -14,7 +14,7 @@ use Rattle.book.specs.declared.Mark.{Mark}
 use Rattle.book.specs.declared.Answer.{Answer}
 use Rattle.book.specs.declared.Reading.{Reading}
 use Rattle.book.specs.declared.Reading.TheVariants.{Quiet, Forced}
-use Rattle.book.specs.Books.{open_mark}
+use Rattle.book.specs.Books.{open_mark, first_loud}
 use Rattle.rules.specs.declared.CountRow.{CountRow}
 use Rattle.rules.specs.declared.RuleRow.{RuleRow}
 use Rattle.rules.specs.Rules.{choice, mark_at}
@@ -22,7 +22,7 @@ use Rattle.rules.specs.Storage.{choices, rule_of, decode}
 use Rattle.rule_book.specs.declared.Role.{Role}
 use Rattle.rule_book.specs.declared.Pressure.{Pressure}
 use Rattle.rule_book.specs.declared.Pressure.TheVariants.{Broken as NoneUnsure, Forced as OneUnsure}
-use Rattle.rule_book.specs.Readings.{first_open, rule_reading, first_loud, rules_reading}
+use Rattle.rule_book.specs.Readings.{first_open, rule_reading, rules_reading}
 use Rattle.rule_book.specs.Weighing.{pressure_reading, reading_of, weigh, weigh_item}
 use Rattle.rule_book.specs.Fold.{weigh_quiet}
 
