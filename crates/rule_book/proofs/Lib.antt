@@ -1,2 +1,3 @@
 pub mod Spans
 pub mod Steps
+pub mod Chains

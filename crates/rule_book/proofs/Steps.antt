@@ -5,13 +5,13 @@ use Rattle.book.specs.declared.Mark.{Mark}
 use Rattle.book.specs.declared.Answer.{Answer}
 use Rattle.book.specs.declared.Reading.{Reading}
 use Rattle.book.specs.declared.Reading.TheVariants.{Broken, Quiet, Forced}
-use Rattle.book.specs.Books.{open_mark}
+use Rattle.book.specs.Books.{open_mark, first_loud}
 use Rattle.rules.specs.declared.CountRow.{CountRow}
 use Rattle.rules.specs.declared.RuleRow.{RuleRow}
 use Rattle.rules.specs.Rules.{Item, choice, count, mark_at, yeses}
 use Rattle.rules.specs.Storage.{run, choices, items, rule_of, decode}
 use Rattle.rule_book.specs.declared.Role.{Role}
-use Rattle.rule_book.specs.Readings.{opens, first_open, rule_reading, first_loud, rules_reading}
+use Rattle.rule_book.specs.Readings.{opens, first_open, rule_reading, rules_reading}
 use Rattle.rule_book.specs.Weighing.{weigh, weigh_item}
 use Rattle.rule_book.specs.Grown.{yes_step, open_step}
 use Rattle.rule_book.specs.Fold.{weigh_quiet, weigh_append}

@@ -7,10 +7,10 @@ use Rattle.book.specs.declared.Answer.{Answer}
 use Rattle.book.specs.declared.Answer.TheVariants.{Yes as AnswerYes, No as AnswerNo}
 use Rattle.book.specs.declared.Reading.{Reading}
 use Rattle.book.specs.declared.Reading.TheVariants.{Broken, Quiet, Forced}
-use Rattle.book.specs.Books.{mark_of, Extends, Settled, Laws}
+use Rattle.book.specs.Books.{mark_of, Extends, Settled, Laws, first_loud}
 use Rattle.rules.specs.Rules.{Item, choice, count, Rule, mark_at, is_yes, yeses, both, either, holds, all_hold, some_holds, Kept, AllKept}
 use Rattle.rule_book.specs.declared.Role.TheVariants.{Body, Head}
-use Rattle.rule_book.specs.Readings.{opens, some_sure, some_lost, unsure_items, first_open, body_pressed, head_pressed, pressed, rule_reading, first_loud, rules_reading}
+use Rattle.rule_book.specs.Readings.{opens, some_sure, some_lost, unsure_items, first_open, body_pressed, head_pressed, pressed, rule_reading, rules_reading}
 use Rattle.rule_book.specs.Meaning.{Allowed}
 use Rattle.rule_book.specs.Fold.{pressed_broken}
 use Rattle.rule_book.specs.Marks.{mark_at_in, open_in, settled_at}

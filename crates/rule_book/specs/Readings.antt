@@ -6,7 +6,7 @@ use Rattle.book.specs.declared.Answer.{Answer}
 use Rattle.book.specs.declared.Answer.TheVariants.{Yes as AnswerYes, No as AnswerNo}
 use Rattle.book.specs.declared.Reading.{Reading}
 use Rattle.book.specs.declared.Reading.TheVariants.{Broken, Quiet, Forced}
-use Rattle.book.specs.Books.{open_mark}
+use Rattle.book.specs.Books.{open_mark, first_loud}
 use Rattle.rules.specs.Rules.{Item, choice, count, Rule, mark_at, yeses, both, either}
 use Rattle.rule_book.specs.declared.Status.{Status}
 use Rattle.rule_book.specs.declared.Status.TheVariants.{Sure, Lost, Unsure}
@@ -91,11 +91,6 @@ pressed ms (i ∷ j ∷ bs) hs = Quiet
 -- a rule with a lost body item or a sure head item is quiet
 abbrev pub rule_reading : List Mark → Rule → Reading
 rule_reading ms r = cond (either (some_lost ms r.body) (some_sure ms r.head)) Quiet (pressed ms (unsure_items ms r.body) (unsure_items ms r.head))
-
-abbrev pub first_loud : Reading → Reading → Reading
-first_loud Broken r = Broken
-first_loud Quiet r = r
-first_loud (Forced c v) r = Forced c v
 
 -- the first in file order that is not quiet, or quiet
 abbrev pub rules_reading : List Mark → List Rule → Reading

@@ -1,5 +1,5 @@
 -- A rule's reading item by item: how the code finds it. That this is `rule_reading` is proved in Fold.antt.
-use Rattle.std.specs.Prelude.{List, [], ◌∷◌}
+use Rattle.std.specs.Prelude.{List, [], ◌∷◌, Some, None, Option}
 use Rattle.book.specs.declared.Mark.{Mark}
 use Rattle.book.specs.declared.Answer.{Answer}
 use Rattle.book.specs.declared.Answer.TheVariants.{Yes as AnswerYes, No as AnswerNo}
@@ -10,7 +10,18 @@ use Rattle.rule_book.specs.declared.Status.{Status}
 use Rattle.rule_book.specs.declared.Status.TheVariants.{Sure, Lost, Unsure}
 use Rattle.rule_book.specs.declared.Role.{Role}
 use Rattle.rule_book.specs.declared.Role.TheVariants.{Body, Head}
+use Rattle.rule_book.specs.declared.Pressure.{Pressure}
+use Rattle.rule_book.specs.declared.Pressure.TheVariants.{Broken as NoneUnsure, Forced as OneUnsure}
 use Rattle.rule_book.specs.Readings.{status, body_pressed, head_pressed}
+
+abbrev pub pressure_reading : Pressure → Reading
+pressure_reading NoneUnsure = Broken
+pressure_reading (OneUnsure c v) = Forced c v
+
+-- .. and quiet where nothing can follow any more
+abbrev pub reading_of : Option Pressure → Reading
+reading_of None = Quiet
+reading_of (Some p) = pressure_reading p
 
 -- the answer by which a choice keeps the rule
 abbrev pub answer_of : Role → Answer

@@ -4,11 +4,11 @@
 //! open choice alone can. specs/Readings.antt has the reading in full.
 #![tactic(auto)]
 
-ghost use Rattle.std.specs.Prelude.{◌≡◌, ℕ, ◌+◌};
+ghost use Rattle.std.specs.Prelude.{◌≡◌, ◌+◌, ◌^◌, ◌<◌};
 ghost use Rattle.rules.specs.Rules.{choice as choice_item, count as count_item, mark_at, yeses};
 ghost use Rattle.rules.specs.Storage.{run, choices as choice_items, side_items, rule_of};
 ghost use Rattle.rule_book.specs.Readings.{opens, count_status, first_open, count_pressed, rule_reading, rules_reading};
-ghost use Rattle.rule_book.specs.Weighing.{answer_of, weigh, weigh_item};
+ghost use Rattle.rule_book.specs.Weighing.{answer_of, pressure_reading, reading_of, weigh, weigh_item};
 ghost use Rattle.rule_book.specs.Laws.{rule_laws};
 ghost use Rattle.rule_book.specs.Meaning.{rules_of, size_of, Allowed};
 
@@ -43,21 +43,47 @@ enum Status {
     Unsure,
 }
 
-/// Of some choices, how many are yes, and the most that may be: those that are yes or open.
+/// What a rule comes to as far as its items are weighed, while something may still follow.
+#[derive(Clone, Copy)]
+enum Pressure {
+    /// No item is unsure.
+    Broken,
+    /// A single item is unsure, and comes to this.
+    Forced(u16, Answer),
+}
+
+/// A count: its bounds and its choices.
+#[derive(Drop)]
+struct Count<'a> {
+    lower: usize,
+    upper: usize,
+    choices: &'a [u16],
+}
+
+/// Of some choices, how many are yes, and how many are open.
 #[derive(Clone, Copy)]
 struct Tally {
     yes: usize,
-    most: usize,
+    undecided: usize,
+    ghost fits: { yes + undecided < 2 ^ 64 },
+}
+
+/// By what a side of a rule is weighed.
+#[derive(Drop)]
+struct Scale<'a> {
+    role: Role,
+    marks: &'a [Mark],
 }
 
 /// The mark of a choice; what is no choice of the sheet counts as no.
 fn mark_at(marks: &[Mark], choice: u16) -> Mark
     ensures { result ≡ mark_at marks.now choice }
 {
-    if choice == 0 || choice as usize > marks.len() {
-        return Mark::No;
-    }
-    marks[choice as usize - 1]
+    choice
+        .checked_sub(1)
+        .and_then(|place| marks.get(place as usize))
+        .copied()
+        .unwrap_or(Mark::No)
 }
 
 /// What stands in a list over that span, as far as the list goes.
@@ -81,115 +107,113 @@ impl Role {
     }
 }
 
+impl From<Pressure> for Reading {
+    ghost from_gives = { λ p r. r ≡ pressure_reading p };
+
+    fn from(pressure: Pressure) -> Reading {
+        match pressure {
+            Pressure::Broken => Reading::Broken,
+            Pressure::Forced(choice, answer) => Reading::Forced(choice, answer),
+        }
+    }
+}
+
 impl Tally {
     fn of(marks: &[Mark], choices: &[u16]) -> Tally
-        ensures marked { result.yes ≡ yeses marks.now choices.now }
-        ensures most { result.most ≡ yeses marks.now choices.now + opens marks.now choices.now }
+        ensures yes { result.yes ≡ yeses marks.now choices.now }
+        ensures undecided { result.undecided ≡ opens marks.now choices.now }
     {
         let mut yes = 0;
-        let mut most = 0;
+        let mut undecided = 0;
         for choice in choices {
             match mark_at(marks, *choice) {
-                Mark::Yes => {
-                    yes += 1;
-                    most += 1;
-                }
-                Mark::Open => most += 1,
+                Mark::Yes => yes += 1,
+                Mark::Open => undecided += 1,
                 Mark::No => {}
             }
         }
-        Tally { yes, most }
+        Tally { yes, undecided }
     }
 
-    /// The status of a count of these choices.
-    fn status(self, lower: u16, upper: u16) -> Status
-        ensures { (o : ℕ) → self.most ≡ self.yes + o → result ≡ count_status lower upper self.yes o }
+    /// The most of them that may be yes.
+    fn most(self) -> usize
+        ensures { result ≡ self.yes + self.undecided }
     {
-        let lower = lower as usize;
-        let upper = upper as usize;
-        if lower <= self.yes && self.most <= upper {
+        self.yes + self.undecided
+    }
+}
+
+impl Count<'_> {
+    fn status(&self, tally: Tally) -> Status
+        ensures { result ≡ count_status self.now.lower self.now.upper tally.yes tally.undecided }
+    {
+        if self.lower <= tally.yes && tally.most() <= self.upper {
             Status::Sure
-        } else if upper < self.yes || self.most < lower {
+        } else if self.upper < tally.yes || tally.most() < self.lower {
             Status::Lost
         } else {
             Status::Unsure
         }
     }
-}
 
-/// Forces the first open choice; quiet with none.
-fn force_first(marks: &[Mark], choices: &[u16], answer: Answer) -> Reading
-    ensures { result ≡ first_open marks.now choices.now answer }
-{
-    for choice in choices {
-        if mark_at(marks, *choice).is_open() {
-            return Reading::Forced(*choice, answer);
+    /// What follows where the count is the single unsure item of a rule, and stands in its head.
+    fn pressed(&self, tally: Tally, marks: &[Mark]) -> Option<Pressure>
+        ensures { reading_of result ≡ count_pressed marks.now self.now.choices.now self.now.lower self.now.upper tally.yes tally.undecided }
+    {
+        if tally.yes == self.upper {
+            self.first_open(marks, Answer::No)
+        } else if tally.most() == self.lower {
+            self.first_open(marks, Answer::Yes)
+        } else {
+            None
         }
     }
-    Reading::Quiet
-}
 
-/// What follows where a count is the one unsure item of a rule, and stands in its head.
-fn press_count(row: CountRow, tally: Tally, marks: &[Mark], choices: &[u16]) -> Reading
-    ensures { (o : ℕ) → tally.most ≡ tally.yes + o → result ≡ count_pressed marks.now choices.now row.lower row.upper tally.yes o }
-{
-    if tally.yes == row.upper as usize {
-        force_first(marks, choices, Answer::No)
-    } else if tally.most == row.lower as usize {
-        force_first(marks, choices, Answer::Yes)
-    } else {
-        Reading::Quiet
+    /// Forces the first open choice, if there is one.
+    fn first_open(&self, marks: &[Mark], answer: Answer) -> Option<Pressure>
+        ensures { reading_of result ≡ first_open marks.now self.now.choices.now answer }
+    {
+        self.choices
+            .iter()
+            .find(|choice| mark_at(marks, **choice).is_open())
+            .map(|choice| Pressure::Forced(*choice, answer))
     }
 }
 
-/// The reading of a rule as far as this choice, where `before` is its reading as far as the item before: broken while no
-/// item is unsure, forced with a single one, and quiet as soon as nothing can follow any more.
-fn weigh_choice(role: Role, choice: u16, marks: &[Mark], before: Reading) -> Reading
-    ensures { result ≡ weigh_item role marks.now (choice_item choice) before }
-{
-    match (role, mark_at(marks, choice)) {
-        (Role::Body, Mark::Yes) | (Role::Head, Mark::No) => before,
-        (Role::Body, Mark::No) | (Role::Head, Mark::Yes) => Reading::Quiet,
-        (_, Mark::Open) => match before {
-            Reading::Broken => Reading::Forced(choice, role.answer()),
-            _ => Reading::Quiet,
-        },
-    }
-}
-
-/// The reading of a rule as far as this count, of those choices.
-fn weigh_count(
-    role: Role,
-    row: CountRow,
-    choices: &[u16],
-    marks: &[Mark],
-    before: Reading,
-) -> Reading
-    ensures { result ≡ weigh_item role marks.now (count_item row.lower row.upper choices.now) before }
-{
-    let tally = Tally::of(marks, choices);
-    match (role, tally.status(row.lower, row.upper)) {
-        (Role::Body, Status::Sure) | (Role::Head, Status::Lost) => before,
-        (Role::Body, Status::Lost | Status::Unsure) | (Role::Head, Status::Sure) => Reading::Quiet,
-        (Role::Head, Status::Unsure) => match before {
-            Reading::Broken => press_count(row, tally, marks, choices),
-            _ => Reading::Quiet,
-        },
-    }
-}
-
-/// The reading of a rule as far as the last of these choices, each of them an item.
-fn weigh_choices(role: Role, choices: &[u16], marks: &[Mark], before: Reading) -> Reading
-    ensures { result ≡ weigh role marks.now (choice_items choices.now) before }
-{
-    let mut reading = before;
-    for choice in choices {
-        reading = weigh_choice(role, *choice, marks, reading);
-        if let Reading::Quiet = reading {
-            return Reading::Quiet;
+impl Scale<'_> {
+    /// What the rule comes to with this choice.
+    fn choice(&self, before: Pressure, choice: u16) -> Option<Pressure>
+        ensures { reading_of result ≡ weigh_item self.now.role self.now.marks.now (choice_item choice) (pressure_reading before) }
+    {
+        match (self.role, mark_at(self.marks, choice), before) {
+            (Role::Body, Mark::Yes, _) | (Role::Head, Mark::No, _) => Some(before),
+            (_, Mark::Open, Pressure::Broken) => {
+                Some(Pressure::Forced(choice, self.role.answer()))
+            }
+            _ => None,
         }
     }
-    reading
+
+    /// What it comes to with these choices, each of them an item.
+    fn choices(&self, before: Pressure, choices: &[u16]) -> Option<Pressure>
+        ensures { reading_of result ≡ weigh self.now.role self.now.marks.now (choice_items choices.now) (pressure_reading before) }
+    {
+        choices
+            .iter()
+            .try_fold(before, |pressure, choice| self.choice(pressure, *choice))
+    }
+
+    /// What it comes to with this count.
+    fn count(&self, before: Pressure, count: &Count) -> Option<Pressure>
+        ensures { reading_of result ≡ weigh_item self.now.role self.now.marks.now (count_item count.now.lower count.now.upper count.now.choices.now) (pressure_reading before) }
+    {
+        let tally = Tally::of(self.marks, count.choices);
+        match (self.role, count.status(tally), before) {
+            (Role::Body, Status::Sure, _) | (Role::Head, Status::Lost, _) => Some(before),
+            (Role::Head, Status::Unsure, Pressure::Broken) => count.pressed(tally, self.marks),
+            _ => None,
+        }
+    }
 }
 
 impl<'a> RuleBook<'a> {
@@ -234,60 +258,52 @@ impl<'a> RuleBook<'a> {
         self.entries
     }
 
-    /// The reading of a rule as far as the last item of this side.
-    fn weigh_side(&self, role: Role, side: Side, marks: &[Mark], before: Reading) -> Reading
-        ensures { result ≡ weigh role marks.now (side_items self.now.counts.now self.now.entries.now side) before }
+    /// What a rule comes to with the items of this side.
+    fn weigh_side(&self, scale: &Scale, side: Side, before: Pressure) -> Option<Pressure>
+        ensures { reading_of result ≡ weigh scale.now.role scale.now.marks.now (side_items self.now.counts.now self.now.entries.now side) (pressure_reading before) }
     {
-        let mut reading = before;
+        let mut pressure = before;
         let mut start = side.entries.start;
-        let rows = part(self.counts, side.counts);
-        for row in rows {
-            let lone = part(
-                self.entries,
-                Span {
-                    start,
-                    end: row.choices.start,
-                },
-            );
-            reading = weigh_choices(role, lone, marks, reading);
-            if let Reading::Quiet = reading {
-                return Reading::Quiet;
-            }
-            reading = weigh_count(role, *row, part(self.entries, row.choices), marks, reading);
-            if let Reading::Quiet = reading {
-                return Reading::Quiet;
-            }
+        for row in part(self.counts, side.counts) {
+            let lone = Span {
+                start,
+                end: row.choices.start,
+            };
+            pressure = scale.choices(pressure, part(self.entries, lone))?;
+            let count = Count {
+                lower: row.lower as usize,
+                upper: row.upper as usize,
+                choices: part(self.entries, row.choices),
+            };
+            pressure = scale.count(pressure, &count)?;
             start = row.choices.end;
         }
         let rest = Span {
             start,
             end: side.entries.end,
         };
-        weigh_choices(role, part(self.entries, rest), marks, reading)
+        scale.choices(pressure, part(self.entries, rest))
     }
 
-    /// The reading of a rule: its body is weighed, and then its head.
-    fn rule_reading(&self, row: RuleRow, marks: &[Mark]) -> Reading
-        ensures { result ≡ rule_reading marks.now (rule_of self.now.counts.now self.now.entries.now row) }
+    /// What a rule comes to: its body is weighed, and then its head.
+    fn weigh_rule(&self, row: RuleRow, marks: &[Mark]) -> Option<Pressure>
+        ensures { reading_of result ≡ rule_reading marks.now (rule_of self.now.counts.now self.now.entries.now row) }
     {
-        let body = self.weigh_side(Role::Body, row.body, marks, Reading::Broken);
-        if let Reading::Quiet = body {
-            return Reading::Quiet;
-        }
-        self.weigh_side(Role::Head, row.head, marks, body)
+        let role = Role::Body;
+        let body = self.weigh_side(&Scale { role, marks }, row.body, Pressure::Broken)?;
+        let role = Role::Head;
+        self.weigh_side(&Scale { role, marks }, row.head, body)
     }
 
     /// The reading of the first rule that is not quiet.
     fn reading(&self, marks: &[Mark]) -> Reading
         ensures { result ≡ rules_reading marks.now (rules_of self.now) }
     {
-        for row in self.rules {
-            match self.rule_reading(*row, marks) {
-                Reading::Quiet => {}
-                loud => return loud,
-            }
-        }
-        Reading::Quiet
+        let pressed = self
+            .rules
+            .iter()
+            .find_map(|row| self.weigh_rule(*row, marks));
+        pressed.map_or(Reading::Quiet, Reading::from)
     }
 }
 

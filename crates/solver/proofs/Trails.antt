@@ -5,7 +5,7 @@ use Rattle.book.specs.declared.Mark.{Mark}
 use Rattle.book.specs.declared.Mark.TheVariants.{Open, No}
 use Rattle.book.specs.Books.{open_mark}
 use Rattle.solver.specs.declared.trail.Step.{Step}
-use Rattle.solver.specs.Steps.{entry_of, step_of, place_of, trail_of, Held, Unwinds}
+use Rattle.solver.specs.Steps.{entry_of, step_of, place_of, once_turned, trail_of, Held, Unwinds}
 use Rattle.solver.specs.Tree.{opens}
 use Rattle.solver.specs.Marks.{opens_unset, set_back}
 
@@ -66,8 +66,16 @@ held_push st s ms m p q o f k =
     let here : open_mark (slice_index_or (slice_set ms (place_of s) m) (place_of s) Open) ≡ false = rw (get_or-set_same ms (place_of s) m Open lt) f in
     (p, omega (arith, length-set ms (place_of s) m), here, rw (set_back ms (place_of s) m o) k)
 
-pub unwind_here : (s : Step) (st : List Step) (ms : List Mark) (w : List ℕ) (d : ℕ) (r : Option ℕ) → s.trial ≡ true → r ≡ Some d → trail_of d w ≡ step s.choice false ∷ st → Unwinds (s ∷ st) ms (slice_set ms (place_of s) No) w d r
-unwind_here s st ms w d r o q k = rw o (q, refl, k)
+pub unwind_here : (s : Step) (st st' : List Step) (ms ms' : List Mark) → s.trial ≡ true → ms' ≡ slice_set ms (place_of s) No → st' ≡ once_turned s ∷ st → Unwinds (s ∷ st) ms ms' st' true
+unwind_here s st st' ms ms' o m k = rw o (refl, m, k)
 
-pub unwind_on : (s : Step) (st : List Step) (ms ms' : List Mark) (w : List ℕ) (d : ℕ) (r : Option ℕ) → s.trial ≡ false → Unwinds st (slice_set ms (place_of s) Open) ms' w (d - 1) r → Unwinds (s ∷ st) ms ms' w d r
-unwind_on s st ms ms' w d r o k = rw o k
+pub unwind_on : (s : Step) (st st' : List Step) (ms ms' : List Mark) (r : Bool) → s.trial ≡ false → Unwinds st (slice_set ms (place_of s) Open) ms' st' r → Unwinds (s ∷ st) ms ms' st' r
+unwind_on s st st' ms ms' r o k = rw o k
+
+-- what is asked of a step that goes back on the trail
+pub room_again : (s : Step) (d : ℕ) (w : List ℕ) (ms ms' : List Mark) → Held (s ∷ trail_of d w) ms → ms' ≡ slice_set ms (place_of s) Open → (0 < s.choice) × (s.choice ≤ length ms') × (d < length ms')
+room_again s d w ms ms' h e =
+    let k = held_count (s ∷ trail_of d w) ms h in
+    let l = length_trail d w in
+    let j = length-set ms (place_of s) Open in
+    rw e (h.0, omega (arith, h.1), omega arith)

@@ -3,3 +3,4 @@ pub mod Outcome
 pub mod Steps
 pub mod Silent
 pub mod Marks
+pub mod Trails

@@ -1,5 +1,5 @@
 -- The trail of a search, and how the work list holds it.
-use Rattle.std.specs.Prelude.{◌≡◌, ℕ, zero, suc, ◌+◌, ◌-◌, ◌*◌, ◌/◌, ◌%◌, ◌<◌, ◌≤◌, false, cond, List, [], ◌∷◌, length, Some, None, Option, ◌==◌, slice_index, slice_index_or, slice_set}
+use Rattle.std.specs.Prelude.{◌≡◌, ℕ, zero, suc, ◌+◌, ◌-◌, ◌*◌, ◌/◌, ◌%◌, ◌<◌, ◌≤◌, Bool, true, false, cond, List, [], ◌∷◌, length, ◌==◌, slice_index, slice_index_or, slice_set}
 use Rattle.book.specs.declared.Mark.{Mark}
 use Rattle.book.specs.declared.Mark.TheVariants.{Open, No}
 use Rattle.book.specs.Books.{open_mark}
@@ -32,9 +32,8 @@ abbrev pub Held : List Step → List Mark → Type 0
 Held [] ms = opens ms ≡ length ms
 Held (s ∷ st) ms = (0 < s.choice) × (s.choice ≤ length ms) × (open_mark (slice_index_or ms (place_of s) Open) ≡ false) × Held st (slice_set ms (place_of s) Open)
 
--- The trail taken back to its latest trial, which is turned. A trail of d steps and the marks before; the marks, the work list
--- and the length of the trail after, or none where the trail has no trial.
-abbrev pub Unwinds : List Step → List Mark → List Mark → List ℕ → ℕ → Option ℕ → Type 0
-Unwinds [] ms ms' w' d None = Unit {0}
-Unwinds [] ms ms' w' d (Some k) = ⊥
-Unwinds (s ∷ st) ms ms' w' d r = cond s.trial ((r ≡ Some d) × (ms' ≡ slice_set ms (place_of s) No) × (trail_of d w' ≡ once_turned s ∷ st)) (Unwinds st (slice_set ms (place_of s) Open) ms' w' (d - 1) r)
+-- The trail taken back to its latest trial, which is turned. The trail and the marks before; the marks and the trail after, and
+-- whether the trail has a trial.
+abbrev pub Unwinds : List Step → List Mark → List Mark → List Step → Bool → Type 0
+Unwinds [] ms ms' st' r = r ≡ false
+Unwinds (s ∷ st) ms ms' st' r = cond s.trial ((r ≡ true) × (ms' ≡ slice_set ms (place_of s) No) × (st' ≡ once_turned s ∷ st)) (Unwinds st (slice_set ms (place_of s) Open) ms' st' r)

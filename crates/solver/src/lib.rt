@@ -12,7 +12,7 @@ ghost use Rattle.solver.specs.Tree.{first_open, TreeLaws};
 
 use book::{Book, Mark, Reading};
 use refusal::{JobCause, JobFault};
-use trail::{Step, advance, turn};
+use trail::{Step, Trail};
 
 #[cfg(test)]
 mod tests;
@@ -73,38 +73,29 @@ fn run<B: Book>(book: &B, allowance: u64, marks: &mut [Mark], work: &mut [u16]) 
     requires { (marks.old ≡ replicate (B.Book.size book.now) OpenMark) × (length work.old ≡ B.Book.size book.now) }
     ensures { Ran (B.Book.size book.now) (B.Book.reads book.now) allowance result marks.new }
 {
-    let mut depth = 0;
+    let mut trail = Trail::new(marks, work);
     let mut trials = 0;
     let ending = loop {
-        let Ok(reading) = book.read(marks) else {
+        let Ok(reading) = book.read(trail.marks()) else {
             unreachable()
         };
         match reading {
             Reading::Forced(choice, answer) => {
-                let step = Step {
-                    choice,
-                    trial: false,
-                };
-                advance(step, Mark::from(answer), marks, work, depth);
-                depth += 1;
+                trail.push(Step::forced(choice), Mark::from(answer));
             }
-            Reading::Quiet => match lowest_open(marks) {
+            Reading::Quiet => match lowest_open(trail.marks()) {
                 None => break Ending::Found,
                 Some(_) if trials == allowance => break Ending::Spent,
                 Some(choice) => {
                     trials += 1;
-                    let step = Step {
-                        choice,
-                        trial: true,
-                    };
-                    advance(step, Mark::Yes, marks, work, depth);
-                    depth += 1;
+                    trail.push(Step::trial(choice), Mark::Yes);
                 }
             },
-            Reading::Broken => match turn(marks, work, depth) {
-                Some(turned) => depth = turned,
-                None => break Ending::None,
-            },
+            Reading::Broken => {
+                if !trail.turn() {
+                    break Ending::None;
+                }
+            }
         }
     };
     Verdict { ending, trials }
@@ -115,10 +106,6 @@ fn lowest_open(marks: &[Mark]) -> Option<u16>
     requires { length marks.now ≤ 4096 }
     ensures { MatchOption result (length marks.now ≤ first_open marks.now) (λ c. (c ≡ first_open marks.now + 1) × (c ≤ length marks.now)) }
 {
-    for (i, mark) in marks.iter().enumerate() {
-        if mark.is_open() {
-            return Some(i as u16 + 1);
-        }
-    }
-    None
+    let place = marks.iter().position(|mark| mark.is_open())?;
+    Some(place as u16 + 1)
 }

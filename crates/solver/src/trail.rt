@@ -1,42 +1,34 @@
-//! The trail of marks made, kept in the work list: an entry for each mark that is not open.
-ghost use Rattle.std.specs.Prelude.{◌≡◌, ◌<◌, ◌≤◌, length, slice_set};
-ghost use Rattle.solver.specs.Steps.{entry_of, step_of, once_turned, place_of, trail_of, Held, Unwinds};
+//! The trail of a search, kept in the work list: an entry for each mark that is not open.
+ghost use Rattle.std.specs.Prelude.{◌≡◌, ◌+◌, ◌^◌, ◌<◌, ◌≤◌, true, false, ◌∷◌, length, slice_set};
+ghost use Rattle.solver.specs.Steps.{entry_of, step_of, place_of, Held, Unwinds};
 
 use book::Mark;
 
 /// One step of the trail: a choice, and whether it is a trial that is not yet turned.
 #[derive(Clone, Copy)]
 pub(crate) struct Step {
-    pub(crate) choice: u16,
-    pub(crate) trial: bool,
+    choice: u16,
+    trial: bool,
 }
 
 impl Step {
-    /// The step as the work list has it.
-    fn to_entry(self) -> u16
-        requires { self.choice ≤ 4096 }
-        ensures { result ≡ entry_of self }
-    {
-        2 * self.choice + u16::from(self.trial)
-    }
-
-    /// The step of an entry of the work list.
-    fn from_entry(entry: u16) -> Step
-        ensures { result ≡ step_of entry }
+    /// A step that is not to be turned.
+    pub(crate) fn forced(choice: u16) -> Step
+        ensures { result ≡ record { choice = choice; trial = false } }
     {
         Step {
-            choice: entry / 2,
-            trial: entry % 2 == 1,
+            choice,
+            trial: false,
         }
     }
 
-    /// The step as it is once its trial is turned.
-    fn turned(self) -> Step
-        ensures { result ≡ once_turned self }
+    /// A trial.
+    pub(crate) fn trial(choice: u16) -> Step
+        ensures { result ≡ record { choice = choice; trial = true } }
     {
         Step {
-            trial: false,
-            ..self
+            choice,
+            trial: true,
         }
     }
 
@@ -49,30 +41,97 @@ impl Step {
     }
 }
 
-/// Marks the choice of a step, and puts the step on the trail.
-pub(crate) fn advance(step: Step, mark: Mark, marks: &mut [Mark], work: &mut [u16], depth: usize)
-    requires { (0 < step.choice) × ((step.choice ≤ length marks.old) × ((length marks.old ≤ 4096) × (depth < length work.old))) }
-    ensures marked { marks.new ≡ slice_set marks.old (place_of step) mark }
-    ensures noted { work.new ≡ slice_set work.old depth (entry_of step) }
-{
-    marks[step.place()] = mark;
-    work[depth] = step.to_entry();
+impl From<u16> for Step {
+    ghost from_gives = { λ w s. s ≡ step_of w };
+
+    fn from(entry: u16) -> Step {
+        Step {
+            choice: entry / 2,
+            trial: entry % 2 == 1,
+        }
+    }
 }
 
-/// Takes the trail back to its latest trial that is not yet turned, and turns that: how long the trail is then, or none where it
-/// has no such trial.
-pub(crate) fn turn(marks: &mut [Mark], work: &mut [u16], depth: usize) -> Option<usize>
-    requires { (depth ≤ length work.old) × ((length marks.old ≤ 4096) × (Held (trail_of depth work.old) marks.old)) }
-    ensures { Unwinds (trail_of depth work.old) marks.old marks.new work.new depth result }
-{
-    for d in (0..depth).rev() {
-        let step = Step::from_entry(work[d]);
-        if step.trial {
-            marks[step.place()] = Mark::No;
-            work[d] = step.turned().to_entry();
-            return Some(d + 1);
-        }
-        marks[step.place()] = Mark::Open;
+impl From<Step> for u16 {
+    ghost from_gives = { λ s w. s.choice < 2 ^ 15 → w ≡ entry_of s };
+
+    fn from(step: Step) -> u16 {
+        step.choice
+            .wrapping_mul(2)
+            .wrapping_add(u16::from(step.trial))
     }
-    None
+}
+
+/// The marks of a search, and the trail of the steps that made them: the work list has an entry for each mark that is not open.
+#[derive(Drop)]
+pub(crate) struct Trail<'a> {
+    marks: &'a mut [Mark],
+    work: &'a mut [u16],
+    depth: usize,
+    ghost small: { length marks.now ≤ 4096 },
+    ghost long: { length work.now ≡ length marks.now },
+}
+
+impl<'a> Trail<'a> {
+    ghost use Rattle.solver.specs.Trails.{steps_of, SameLists, Popped};
+
+    /// An empty trail, over open marks.
+    pub(crate) fn new(marks: &'a mut [Mark], work: &'a mut [u16]) -> Trail<'a>
+        requires { (length marks.old ≤ 4096) × (length work.old ≡ length marks.old) }
+        ensures marks { (result.marks.ghost_name ≡ marks.entry.ghost_name) × (result.marks.now ≡ marks.old) }
+        ensures work { (result.work.ghost_name ≡ work.entry.ghost_name) × (result.work.now ≡ work.old) }
+        ensures empty { result.depth ≡ 0 }
+    {
+        Trail {
+            marks,
+            work,
+            depth: 0,
+        }
+    }
+
+    pub(crate) fn marks(&self) -> &[Mark]
+        ensures { result.now ≡ self.now.marks.now }
+    {
+        &*self.marks
+    }
+
+    /// Marks the choice of a step.
+    pub(crate) fn push(&mut self, step: Step, mark: Mark)
+        requires { (0 < step.choice) × (step.choice ≤ length self.old.marks.now) × (self.old.depth < length self.old.marks.now) }
+        ensures same { SameLists self.old self.new }
+        ensures marked { self.new.marks.now ≡ slice_set self.old.marks.now (place_of step) mark }
+        ensures noted { steps_of self.new ≡ step ∷ steps_of self.old }
+        ensures deeper { self.new.depth ≡ self.old.depth + 1 }
+    {
+        self.marks[step.place()] = mark;
+        self.work[self.depth] = u16::from(step);
+        self.depth += 1;
+    }
+
+    /// Takes the latest step back: its choice is open again.
+    fn pop(&mut self) -> Option<Step>
+        requires { Held (steps_of self.old) self.old.marks.now }
+        ensures same { SameLists self.old self.new }
+        ensures popped { Popped self.old self.new result }
+    {
+        self.depth = self.depth.checked_sub(1)?;
+        let step = Step::from(self.work[self.depth]);
+        self.marks[step.place()] = Mark::Open;
+        Some(step)
+    }
+
+    /// Takes the trail back to its latest trial that is not yet turned, and turns that. Whether there is such a trial.
+    pub(crate) fn turn(&mut self) -> bool
+        requires { Held (steps_of self.old) self.old.marks.now }
+        ensures same { SameLists self.old self.new }
+        ensures turned { Unwinds (steps_of self.old) self.old.marks.now self.new.marks.now (steps_of self.new) result }
+    {
+        while let Some(step) = self.pop() {
+            if step.trial {
+                self.push(Step::forced(step.choice), Mark::No);
+                return true;
+            }
+        }
+        false
+    }
 }

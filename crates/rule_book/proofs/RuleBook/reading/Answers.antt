@@ -1,7 +1,13 @@
-use Rattle.std.proofs.Common.{sym, ◌∙◌}
+use Rattle.std.proofs.Common.{rules, ◌≡◌, None, Some, Option, ◌∙◌}
+use Rattle.std.specs.Prelude.{MatchOption}
+use Rattle.book.specs.declared.Reading.{Reading}
 use Rattle.book.specs.declared.Reading.TheVariants.{Quiet}
 use Rattle.rules.specs.declared.RuleRow.{RuleRow}
-use Rattle.rule_book.proofs.Steps.{rules_more, rules_all, loud}
+use Rattle.rule_book.specs.declared.Pressure.{Pressure}
+use Rattle.rule_book.specs.Readings.{rules_reading}
+use Rattle.rule_book.specs.Meaning.{rules_of}
+use Rattle.rule_book.specs.Weighing.{pressure_reading, reading_of}
+use Rattle.rule_book.proofs.Chains.{loudest}
 use Rattle.rule_book.proofs.RuleBook.reading.Goals as goal
 
 abbrev no_row : RuleRow
@@ -10,15 +16,13 @@ no_row = record {
   head = record { entries = record { start = 0; end = 0 }; counts = record { start = 0; end = 0 } };
 }
 
-pub returns-in_default : goal.returns-in_default
-returns-in_default c =
-    let e = rules_more c.args.marks.now c.args.self.now.rules.now c.args.self.now.counts.now c.args.self.now.entries.now c.loop-row.row-index no_row c.rule_reading.result c.loop-row-test.true c.rule_reading.ensures in
-    sym (c.loop-row.invariant ∙ e ∙ loud c.rule_reading.result _ c.in_default.not-Quiet)
-
-pub loop-row-preserved : goal.loop-row-preserved
-loop-row-preserved c =
-    c.loop-row.invariant ∙ rules_more c.args.marks.now c.args.self.now.rules.now c.args.self.now.counts.now c.args.self.now.entries.now c.loop-row.row-index no_row Quiet c.loop-row-test.true c.in-Quiet.ensures
+read : (p : Option Pressure) (r : Reading) → MatchOption p (r ≡ Quiet) (λ q. r ≡ pressure_reading q) → r ≡ reading_of p
+read None r h = h
+read (Some p) r h = h
 
 pub returns : goal.returns
 returns c =
-    sym (c.loop-row.invariant ∙ rules_all c.args.marks.now c.args.self.now.rules.now c.args.self.now.counts.now c.args.self.now.entries.now c.loop-row.row-index c.loop-row-test.false)
+    let d = c.find_map-pressed.ensures.runs in
+    let h : reading_of c.find_map-pressed.result ≡ rules_reading c.args.marks.now (rules_of c.args.self.now) =
+    loudest c.args.marks.now c.args.self.now.counts.now c.args.self.now.entries.now no_row _ _ (λ x v q k. search rules) d.0 c.args.self.now.rules.now (search rules) c.find_map-pressed.result d.2 in
+    read c.find_map-pressed.result c.map_or.result (search rules) ∙ h

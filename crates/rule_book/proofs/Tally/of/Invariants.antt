@@ -5,6 +5,6 @@ use Rattle.rule_book.proofs.Tally.of.Given as goal
 
 abbrev pub invariant-loop-choice : goal.invariant-loop-choice
 invariant-loop-choice l =
-    (l.yes ≤ l.choice-index) × (l.most ≤ l.choice-index) ×
+    (l.yes + l.undecided ≤ l.choice-index) ×
     (l.yes + yeses l.marks (drop l.choice-index l.choices) ≡ yeses l.marks l.choices) ×
-    (l.most + (yeses l.marks (drop l.choice-index l.choices) + opens l.marks (drop l.choice-index l.choices)) ≡ yeses l.marks l.choices + opens l.marks l.choices)
+    (l.undecided + opens l.marks (drop l.choice-index l.choices) ≡ opens l.marks l.choices)
