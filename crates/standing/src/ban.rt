@@ -16,7 +16,7 @@ const NO_MEMBER: Member = Member {
     answer: Answer::No,
 };
 
-/// A ban: the first `count` of its members. An `ArrayVec` would not be `Copy`.
+/// A ban: the first `count` of its members. It is `Copy`, which an `ArrayVec` is not.
 #[derive(Clone, Copy)]
 pub struct Ban {
     members: [Member; MAX_MEMBERS],
@@ -61,6 +61,23 @@ impl Ban {
         &self.members[..self.count]
     }
 
+    /// The ban of these members on a sheet of `n` choices: one to eight, each with a choice of the sheet that is above the
+    /// choice before.
+    pub(super) fn new(n: SheetSize, members: &[Member]) -> Result<Ban, JobFault>
+        ensures told { result_err result ≡ ban_fault n.value 0 members.now }
+        ensures ban { IfOk result (λ b. b ≡ members.now) }
+    {
+        if members.is_empty() || members.len() > MAX_MEMBERS {
+            return Err(fault(JobCause::MemberCount));
+        }
+        let mut before = 0;
+        for (place, member) in members.iter().enumerate() {
+            check_member(n, before, member.choice).map_err(|cause| JobFault { cause, place })?;
+            before = member.choice;
+        }
+        Ok(Ban::of(members))
+    }
+
     /// The ban of these members.
     fn of(members: &[Member]) -> Ban
         requires { length members.now ≤ 8 }
@@ -73,33 +90,13 @@ impl Ban {
             count: members.len(),
         }
     }
-}
-
-impl Ban {
-    /// The ban of these members on a sheet of `n` choices: one to eight, each with a choice of the sheet that is above the
-    /// choice before.
-    pub(super) fn new(n: SheetSize, members: &[Member]) -> Result<Ban, JobFault>
-        ensures told { result_err result ≡ ban_fault n.value 0 members.now }
-        ensures ban { IfOk result (λ b. b ≡ members.now) }
-    {
-        if members.is_empty() || members.len() > MAX_MEMBERS {
-            return Err(fault(JobCause::MemberCount));
-        }
-        let mut before = 0;
-        for (place, member) in members.iter().enumerate() {
-            if let Err(cause) = check_member(n, before, member.choice) {
-                return Err(JobFault { cause, place });
-            }
-            before = member.choice;
-        }
-        Ok(Ban::of(members))
-    }
 
     /// Broken if all members are there; forced if all but one are, and that one's choice is open.
     pub(super) fn reading(&self, marks: &[Mark]) -> Reading
         ensures { result ≡ ban_reading marks.now self.now }
     {
-        let mut lacking = self.members().iter().filter(|member| !member.is_there(marks));
+        let members = self.members();
+        let mut lacking = members.iter().filter(|member| !member.is_there(marks));
         let Some(member) = lacking.next() else {
             return Reading::Broken;
         };
@@ -127,8 +124,7 @@ impl Member {
     fn mark(self, marks: &[Mark]) -> Option<Mark>
         ensures { result ≡ mark_at marks.now self.choice }
     {
-        let place = place_of(marks.len(), self.choice)?;
-        Some(marks[place])
+        place_of(marks.len(), self.choice).map(|place| marks[place])
     }
 
     /// Whether the member's choice has its answer.

@@ -77,15 +77,9 @@ impl Bans {
     pub fn reading(&self, marks: &[Mark]) -> Reading
         ensures { result ≡ bans_reading self.now marks.now }
     {
-        first_reading(self.rows(), marks)
+        self.rows()
+            .iter()
+            .find_map(|ban| ban.reading(marks).loud())
+            .unwrap_or(Reading::Quiet)
     }
-}
-
-/// What the first ban that has something to say says.
-fn first_reading(bans: &[Ban], marks: &[Mark]) -> Reading
-    ensures { result ≡ bans_reading bans.now marks.now }
-{
-    bans.iter()
-        .find_map(|ban| ban.reading(marks).loud())
-        .unwrap_or(Reading::Quiet)
 }

@@ -10,7 +10,6 @@ ghost use Rattle.std.specs.Result.{result_err};
 ghost use Rattle.standing.specs.Steps.{place_of, choice_cause};
 
 pub use book::MAX_CHOICES;
-
 use book::{Answer, SheetSize};
 use refusal::{JobCause, JobFault};
 
@@ -41,8 +40,9 @@ pub struct Member {
 fn place_of(count: usize, number: u16) -> Option<usize>
     ensures { result ≡ place_of count number }
 {
-    let place = usize::from(number).checked_sub(1)?;
-    if place < count { Some(place) } else { None }
+    usize::from(number)
+        .checked_sub(1)
+        .filter(|place| *place < count)
 }
 
 /// The place of a choice in a list for a sheet of `n` choices.

@@ -70,9 +70,18 @@ impl Pins {
     pub fn reading(&self, marks: &[Mark]) -> Reading
         ensures { result ≡ pins_reading self.now marks.now }
     {
-        all_pins_say(self.marks(), marks)
+        // One pass: a chain would go over the marks once for broken pins and once for open ones.
+        let mut forced = Reading::Quiet;
+        for (place, (pin, mark)) in self.marks.iter().zip(marks).enumerate() {
+            match pin_says(place as u16 + 1, *pin, *mark) {
+                Reading::Broken => return Reading::Broken,
+                said => forced = forced.loud().unwrap_or(said),
+            }
+        }
+        forced
     }
 }
+
 /// What one pin says of the mark of its choice.
 fn pin_says(choice: u16, pin: Mark, mark: Mark) -> Reading
     ensures { result ≡ pin_says choice pin mark }
@@ -83,19 +92,4 @@ fn pin_says(choice: u16, pin: Mark, mark: Mark) -> Reading
         (Mark::No, Mark::Open) => Reading::Forced(choice, Answer::No),
         _ => Reading::Quiet,
     }
-}
-
-/// What the pins say together.
-fn all_pins_say(pins: &[Mark], marks: &[Mark]) -> Reading
-    requires { length pins.now ≤ 4096 }
-    ensures { result ≡ pins_reading pins.now marks.now }
-{
-    let mut forced = Reading::Quiet;
-    for (place, (pin, mark)) in pins.iter().zip(marks).enumerate() {
-        match pin_says(place as u16 + 1, *pin, *mark) {
-            Reading::Broken => return Reading::Broken,
-            said => forced = forced.loud().unwrap_or(said),
-        }
-    }
-    forced
 }
