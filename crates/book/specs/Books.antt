@@ -1,5 +1,5 @@
 -- Marks, arrangements and their order, and the laws of books.
-use Rattle.std.specs.Prelude.{◌≡◌, ℕ, ◌-◌, ◌<◌, ◌≤◌, Bool, true, false, ◌⊎◌, List, length, Ok, Err, Result, ◌≢◌, slice_index_or}
+use Rattle.std.specs.Prelude.{◌≡◌, ℕ, ◌-◌, ◌<◌, ◌≤◌, Bool, true, false, ◌⊎◌, List, length, Some, None, Option, Ok, Err, Result, ◌≢◌, slice_index_or}
 use Rattle.book.specs.declared.Mark.{Mark}
 use Rattle.book.specs.declared.Mark.TheVariants.{Open, Yes, No}
 use Rattle.book.specs.declared.Answer.{Answer}
@@ -12,10 +12,26 @@ abbrev pub mark_of : Answer → Mark
 mark_of AnswerYes = Yes
 mark_of AnswerNo = No
 
+abbrev pub other_answer : Answer → Answer
+other_answer AnswerYes = AnswerNo
+other_answer AnswerNo = AnswerYes
+
 abbrev pub open_mark : Mark → Bool
 open_mark Open = true
 open_mark Yes = false
 open_mark No = false
+
+-- a reading that is not quiet
+abbrev pub loud : Reading → Option Reading
+loud Broken = Some Broken
+loud Quiet = None
+loud (Forced c v) = Some (Forced c v)
+
+-- the first of two readings, unless it is quiet
+abbrev pub first_loud : Reading → Reading → Reading
+first_loud Broken r = Broken
+first_loud Quiet r = r
+first_loud (Forced c v) r = Forced c v
 
 -- a list that extends the marks agrees with them wherever they are not open
 abbrev pub Extends : List Mark → List Mark → Type 0

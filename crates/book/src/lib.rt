@@ -7,11 +7,13 @@
 ghost use Rattle.std.specs.Prelude.{◌≡◌, ℕ, List};
 ghost use Rattle.book.specs.declared.Mark.{Mark};
 ghost use Rattle.book.specs.declared.Reading.{Reading};
-ghost use Rattle.book.specs.Books.{mark_of, open_mark, Laws, ReadsAs};
+ghost use Rattle.book.specs.Books.{mark_of, other_answer, open_mark, loud, Laws, ReadsAs};
+
+use std::ops::Not;
 
 mod size;
 
-pub use size::SheetSize;
+pub use size::{MAX_CHOICES, SheetSize};
 
 /// The mark of one choice.
 #[derive(Clone, Copy, PartialEq, Eq, Debug)]
@@ -48,9 +50,20 @@ impl Mark {
     pub fn is_open(self) -> bool
         ensures { result ≡ open_mark self }
     {
+        self == Mark::Open
+    }
+}
+
+impl Not for Answer {
+    type Output = Answer;
+
+    ghost not_gives = { λ a r. r ≡ other_answer a };
+
+    /// The answer that is not this one.
+    fn not(self) -> Answer {
         match self {
-            Mark::Open => true,
-            Mark::Yes | Mark::No => false,
+            Answer::Yes => Answer::No,
+            Answer::No => Answer::Yes,
         }
     }
 }
@@ -66,10 +79,23 @@ impl From<Answer> for Mark {
     }
 }
 
+impl Reading {
+    /// The reading, where something follows from the marks; none where it is quiet.
+    pub fn loud(self) -> Option<Reading>
+        ensures { result ≡ loud self }
+    {
+        match self {
+            Reading::Quiet => None,
+            Reading::Broken | Reading::Forced(..) => Some(self),
+        }
+    }
+}
+
 /// A book of some kind. Its meaning is in the ghost members, and `lawful` is what each kind of book owes;
 /// whoever is generic over books may rely on these laws and on nothing else.
 pub trait Book {
-    /// The kind number, one for each kind of book.
+    /// The kind number, one for each kind of book. An impl with a lifetime, as most kinds of book have, can't yet give a constant
+    /// that clauses name, so clauses have a member of their own.
     const KIND: u16;
 
     /// The same number, for clauses.

@@ -1,6 +1,9 @@
 ghost use Rattle.std.specs.Prelude.{◌≡◌, ◌<◌, ◌≤◌, MatchOption};
 
-/// How many choices a sheet has: at most 4,096.
+/// The most choices that a sheet can have.
+pub const MAX_CHOICES: usize = 4096;
+
+/// How many choices a sheet has.
 #[derive(Clone, Copy)]
 pub struct SheetSize {
     value: u16,
@@ -12,7 +15,7 @@ impl SheetSize {
     pub fn new(value: u16) -> Option<SheetSize>
         ensures { MatchOption result (4096 < value) (λ s. s.value ≡ value) }
     {
-        if value > 4096 {
+        if value as usize > MAX_CHOICES {
             return None;
         }
         Some(SheetSize { value })

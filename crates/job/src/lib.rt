@@ -128,9 +128,9 @@ impl<B: Book> Job<B> {
 
 /// The pins are asked first, where they are quiet the bans, and where those are quiet the book below.
 impl<B: Book> Book for Job<B> {
-    ghost KIND = { 3 };
-
     const KIND: u16 = JOB_KIND;
+
+    ghost kind = { 3 };
 
     ghost size = { λ j. B.Book.size j.book };
 
@@ -139,6 +139,10 @@ impl<B: Book> Book for Job<B> {
     ghost reads = { λ j. job_reading (stands j) (B.Book.reads j.book) };
 
     ghost lawful = { λ j. job_laws _ _ _ (B.Book.lawful j.book) _ };
+
+    fn kind_number(&self) -> u16 {
+        JOB_KIND
+    }
 
     fn choices(&self) -> u16 {
         self.book.choices()

@@ -4,7 +4,8 @@ use Rattle.book.specs.declared.Mark.{Mark}
 use Rattle.book.specs.declared.Mark.TheVariants.{Open, Yes, No}
 use Rattle.output.specs.Writing.{Fits}
 use Rattle.refusal.specs.declared.JobCause.TheVariants.{ListTooShort}
-use Rattle.refusal.specs.declared.JobFault.{JobFault}
+use Rattle.refusal.specs.declared.At.{At}
+use Rattle.refusal.specs.declared.JobCause.{JobCause}
 
 -- the yes choices of the marks, which belong to the choices from c on
 abbrev pub yes_choices : ℕ → List Mark → List ℕ
@@ -29,6 +30,6 @@ choice_line ms = spaced true (yes_choices 1 ms) ++ (10 ∷ [])
 
 -- A text printed into a list: its length is answered and the bytes after it are untouched; a list that is too short is
 -- refused and stays as it was.
-abbrev pub Printed : List ℕ → List ℕ → List ℕ → Result ℕ JobFault → Type 0
+abbrev pub Printed : List ℕ → List ℕ → List ℕ → Result ℕ (At JobCause) → Type 0
 Printed text out out' (Ok k) = Fits text out out' k
 Printed text out out' (Err e) = (e ≡ record { cause = ListTooShort; place = 0 }) × (length out < length text) × (out' ≡ out)

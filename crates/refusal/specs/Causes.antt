@@ -2,9 +2,14 @@
 use Rattle.std.specs.Prelude.{ℕ}
 use Rattle.refusal.specs.declared.JobCause.{JobCause}
 use Rattle.refusal.specs.declared.JobCause.TheVariants.{Choice, NotPinned, MemberCount, NotRising, BansFull, NoSuchBan, ListLength, ListTooShort}
-use Rattle.refusal.specs.declared.JobFault.{JobFault}
+use Rattle.refusal.specs.declared.At.{At}
+use Rattle.refusal.specs.declared.Layer.{Layer}
 use Rattle.refusal.specs.declared.Layer.TheVariants.{Job}
 use Rattle.refusal.specs.declared.Refusal.{Refusal}
+
+-- a fault of a layer as it is told, where its causes have these numbers
+abbrev pub told : {C : Type 0} → (C → ℕ) → Layer → At C → Refusal
+told numbers layer f = record { number = numbers f.cause; place = f.place; layer = layer }
 
 abbrev pub job_number : JobCause → ℕ
 job_number Choice = 30
@@ -16,5 +21,5 @@ job_number NoSuchBan = 35
 job_number ListLength = 36
 job_number ListTooShort = 37
 
-abbrev pub told_job : JobFault → Refusal
-told_job f = record { number = job_number f.cause; place = f.place; layer = Job }
+abbrev pub told_job : At JobCause → Refusal
+told_job = told job_number Job

@@ -1,8 +1,11 @@
-//! Refusals as they are told: cause, place and layer, and the faults of the layer that several crates share.
+//! Refusals as they are told: cause, place and layer; what every kind of cause has; and the causes of the layer that several
+//! crates share.
 #![tactic(auto)]
 
-ghost use Rattle.std.specs.Prelude.{◌≡◌};
-ghost use Rattle.refusal.specs.Causes.{job_number, told_job};
+ghost use Rattle.std.specs.Prelude.{◌≡◌, ℕ};
+ghost use Rattle.refusal.specs.declared.Layer.{Layer as LayerOf};
+ghost use Rattle.refusal.specs.declared.Layer.TheVariants.{Job as JobLayer};
+ghost use Rattle.refusal.specs.Causes.{job_number, told};
 
 /// The part of the program that refuses.
 #[derive(Clone, Copy, PartialEq, Eq, Debug)]
@@ -21,6 +24,41 @@ pub struct Refusal {
     pub number: u8,
     pub place: usize,
     pub layer: Layer,
+}
+
+/// A kind of cause: that of one layer.
+pub trait Cause {
+    /// The number of each cause.
+    ghost numbers: { Self → ℕ };
+
+    /// The layer that refuses for these causes.
+    ghost LAYER: { LayerOf };
+
+    /// That layer.
+    const LAYER: Layer;
+
+    /// The number by which the table of refusals knows the cause.
+    fn number(self) -> u8
+        ensures { result ≡ numbers self };
+}
+
+/// A cause, and the place where it was met.
+#[derive(Clone, Copy, PartialEq, Eq, Debug)]
+pub struct At<C> {
+    pub cause: C,
+    pub place: usize,
+}
+
+impl<C: Cause> From<At<C>> for Refusal {
+    ghost from_gives = { λ f r. r ≡ told C.numbers C.LAYER f };
+
+    fn from(fault: At<C>) -> Refusal {
+        Refusal {
+            number: fault.cause.number(),
+            place: fault.place,
+            layer: C::LAYER,
+        }
+    }
 }
 
 /// Why a call on a job, on its lists or on its printed output is refused.
@@ -45,17 +83,16 @@ pub enum JobCause {
 }
 
 /// A fault of layer job.
-#[derive(Clone, Copy, PartialEq, Eq, Debug)]
-pub struct JobFault {
-    pub cause: JobCause,
-    pub place: usize,
-}
+pub type JobFault = At<JobCause>;
 
-impl JobCause {
-    /// The number by which the table of refusals knows the cause.
-    pub fn number(self) -> u8
-        ensures { result ≡ job_number self }
-    {
+impl Cause for JobCause {
+    ghost numbers = { job_number };
+
+    ghost LAYER = { JobLayer };
+
+    const LAYER: Layer = Layer::Job;
+
+    fn number(self) -> u8 {
         match self {
             JobCause::Choice => 30,
             JobCause::NotPinned => 31,
@@ -65,18 +102,6 @@ impl JobCause {
             JobCause::NoSuchBan => 35,
             JobCause::ListLength => 36,
             JobCause::ListTooShort => 37,
-        }
-    }
-}
-
-impl From<JobFault> for Refusal {
-    ghost from_gives = { λ f r. r ≡ told_job f };
-
-    fn from(fault: JobFault) -> Refusal {
-        Refusal {
-            number: fault.cause.number(),
-            place: fault.place,
-            layer: Layer::Job,
         }
     }
 }

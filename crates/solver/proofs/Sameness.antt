@@ -5,7 +5,8 @@ use Rattle.std.proofs.lemmas.Bool.{cases_lt}
 use Rattle.book.specs.declared.Mark.{Mark}
 use Rattle.book.specs.declared.Mark.TheVariants.{Open}
 use Rattle.book.specs.declared.Reading.{Reading}
-use Rattle.refusal.specs.declared.JobFault.{JobFault}
+use Rattle.refusal.specs.declared.At.{At}
+use Rattle.refusal.specs.declared.JobCause.{JobCause}
 use Rattle.solver.specs.declared.Ending.{Ending}
 use Rattle.solver.specs.declared.Ending.TheVariants.{Found, None as NoneAllowed, Spent}
 use Rattle.solver.specs.declared.Verdict.{Verdict}
@@ -29,7 +30,7 @@ module _ (n : ℕ) (reads reads₂ : List Mark → Reading) (agree : (ms : List 
       let marks : MarksAfter n v.ending f.end ms₂' = rw same (rw s.1 at f₂.marks) in
       (same, same_marks n v.ending f.end ms' ms₂' f.marks marks, f.zeros ∙ sym f₂.zeros)
 
-  same_searched : length ms ≡ length ms₂ → length w ≡ length w₂ → (ms' ms₂' : List Mark) (w' w₂' : List ℕ) (r r₂ : Result Verdict JobFault) →
+  same_searched : length ms ≡ length ms₂ → length w ≡ length w₂ → (ms' ms₂' : List Mark) (w' w₂' : List ℕ) (r r₂ : Result Verdict (At JobCause)) →
       Searched n reads a ms w ms' w' r → Searched n reads₂ a ms₂ w₂ ms₂' w₂' r₂ → (r ≡ r₂) × (is_ok r ≡ true → (ms' ≡ ms₂') × (w' ≡ w₂'))
   same_searched lm lw ms' ms₂' w' w₂' (Ok v) (Ok v₂) f f₂ = let s = same_finished ms' ms₂' w' w₂' v v₂ f f₂ in (ap Ok s.0, λ _. (s.1, s.2))
   same_searched lm lw ms' ms₂' w' w₂' (Ok v) (Err e₂) f f₂ = absurd (f₂.unfit (sym lm ∙ f.fits.0, sym lw ∙ f.fits.1))

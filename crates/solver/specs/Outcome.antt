@@ -5,7 +5,8 @@ use Rattle.book.specs.declared.Mark.TheVariants.{Open}
 use Rattle.book.specs.declared.Reading.{Reading}
 use Rattle.book.specs.Books.{Earlier}
 use Rattle.refusal.specs.declared.JobCause.TheVariants.{ListLength}
-use Rattle.refusal.specs.declared.JobFault.{JobFault}
+use Rattle.refusal.specs.declared.At.{At}
+use Rattle.refusal.specs.declared.JobCause.{JobCause}
 use Rattle.solver.specs.declared.Ending.{Ending}
 use Rattle.solver.specs.declared.Ending.TheVariants.{Found, None as NoneAllowed, Spent}
 use Rattle.solver.specs.declared.Verdict.{Verdict}
@@ -46,13 +47,13 @@ pub record Finished (n : ℕ) (reads : List Mark → Reading) (allowance : ℕ) 
   pub ample : 2 ^ n ≤ allowance + 1 → v.ending ≢ Spent
 
 -- A search that is refused: a list is not n long, and both are as they were.
-pub record Refused (n : ℕ) (ms : List Mark) (w : List ℕ) (ms' : List Mark) (w' : List ℕ) (e : JobFault) : Type 0 where
+pub record Refused (n : ℕ) (ms : List Mark) (w : List ℕ) (ms' : List Mark) (w' : List ℕ) (e : At JobCause) : Type 0 where
   pub fault : e ≡ record { cause = ListLength; place = 0 }
   pub unfit : (length ms ≡ n) × (length w ≡ n) → ⊥
   pub marks_kept : ms' ≡ ms
   pub work_kept : w' ≡ w
 
-abbrev pub Searched : ℕ → (List Mark → Reading) → ℕ → List Mark → List ℕ → List Mark → List ℕ → Result Verdict JobFault → Type 0
+abbrev pub Searched : ℕ → (List Mark → Reading) → ℕ → List Mark → List ℕ → List Mark → List ℕ → Result Verdict (At JobCause) → Type 0
 Searched n reads allowance ms w ms' w' (Ok v) = Finished n reads allowance ms w ms' w' v
 Searched n reads allowance ms w ms' w' (Err e) = Refused n ms w ms' w' e
 
@@ -69,7 +70,7 @@ abbrev pub Alike : ℕ → (List Mark → Reading) → Type 0
 Alike n reads =
     (reads₂ : List Mark → Reading) → ((ms : List Mark) → length ms ≡ n → reads₂ ms ≡ reads ms) →
     (allowance : ℕ) (ms ms₂ : List Mark) (w w₂ : List ℕ) → length ms ≡ length ms₂ → length w ≡ length w₂ →
-    (ms' ms₂' : List Mark) (w' w₂' : List ℕ) (r r₂ : Result Verdict JobFault) →
+    (ms' ms₂' : List Mark) (w' w₂' : List ℕ) (r r₂ : Result Verdict (At JobCause)) →
     Searched n reads allowance ms w ms' w' r → Searched n reads₂ allowance ms₂ w₂ ms₂' w₂' r₂ →
     (r ≡ r₂) × (is_ok r ≡ true → (ms' ≡ ms₂') × (w' ≡ w₂'))
 
