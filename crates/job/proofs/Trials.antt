@@ -9,7 +9,7 @@ use Rattle.book.specs.declared.Mark.{Mark}
 use Rattle.book.specs.declared.Mark.TheVariants.{Open, Yes, No}
 use Rattle.book.specs.declared.Reading.{Reading}
 use Rattle.book.specs.declared.Reading.TheVariants.{Broken, Quiet, Forced}
-use Rattle.book.specs.Books.{mark_of, open_mark}
+use Rattle.book.specs.Books.{mark_of, open_mark, first_loud}
 use Rattle.refusal.specs.declared.At.{At}
 use Rattle.refusal.specs.declared.JobCause.{JobCause}
 use Rattle.solver.specs.declared.Ending.TheVariants.{Found, None as NoneAllowed, Spent}
@@ -18,7 +18,7 @@ use Rattle.solver.specs.Outcome.{Says, Searched}
 use Rattle.solver.specs.Tree.{opens, Explores, broken, settled, forced, yes_side, no_side}
 use Rattle.solver.proofs.Counts.{few}
 use Rattle.solver.specs.Marks.{never_open, get_or_new}
-use Rattle.standing.specs.Readings.{or_else, pins_reading, bans_reading}
+use Rattle.standing.specs.Readings.{pins_reading, bans_reading}
 use Rattle.standing.specs.Standing.{Standing}
 use Rattle.job.specs.Jobs.{job_reading, without_pins, unpinned, FewTrials}
 use Rattle.job.specs.PinLaws.{Way, against_one, orders, silent, way}
@@ -63,7 +63,7 @@ module _ (ps : List Mark) where
       ])
   ordered_next (silent d f) c v e o = absurd (let z : ◌≡◌ {A = ℕ} 0 1 = cc in omega arith)
 
-quiet_first : (r s : Reading) → or_else r s ≡ Quiet → r ≡ Quiet
+quiet_first : (r s : Reading) → first_loud r s ≡ Quiet → r ≡ Quiet
 quiet_first Broken s e = e
 quiet_first Quiet s e = refl
 quiet_first (Forced c v) s e = e
@@ -78,7 +78,7 @@ module _ (s : Standing) (reads : List Mark → Reading) where
   few_from (settled ms e h) or = pow_pos (without_pins (length ms) s.pins)
   few_from (forced ms c v t o e x) or = by (λ q. few_from x q) (pins_reading s.pins ms) refl e
     where
-      by : (Ordered s.pins (set ms (c - 1) (mark_of v)) → t + 1 ≤ 2 ^ without_pins (length (set ms (c - 1) (mark_of v))) s.pins) → (r : Reading) → pins_reading s.pins ms ≡ r → or_else r (or_else (bans_reading s.bans ms) (reads ms)) ≡ Forced c v → t + 1 ≤ 2 ^ without_pins (length ms) s.pins
+      by : (Ordered s.pins (set ms (c - 1) (mark_of v)) → t + 1 ≤ 2 ^ without_pins (length (set ms (c - 1) (mark_of v))) s.pins) → (r : Reading) → pins_reading s.pins ms ≡ r → first_loud r (first_loud (bans_reading s.bans ms) (reads ms)) ≡ Forced c v → t + 1 ≤ 2 ^ without_pins (length ms) s.pins
       by on Broken q f = absurd (let z : ◌≡◌ {A = ℕ} 0 1 = cc in omega arith)
       by on Quiet q f = from_quiet (forced ms c v t o e x) q or
       by on (Forced d w) q f = rw length-set at (on (ordered_next s.pins (way s.pins ms) c v (q ∙ f) or))

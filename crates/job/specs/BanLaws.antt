@@ -8,10 +8,10 @@ use Rattle.book.specs.declared.Answer.TheVariants.{Yes as AnswerYes, No as Answe
 use Rattle.book.specs.declared.Mark.{Mark}
 use Rattle.book.specs.declared.Mark.TheVariants.{Open, Yes, No}
 use Rattle.book.specs.declared.Reading.TheVariants.{Broken, Quiet, Forced}
-use Rattle.book.specs.Books.{mark_of, Laws, Extends, Settled}
+use Rattle.book.specs.Books.{mark_of, Laws, Extends, Settled, other_answer}
 use Rattle.solver.specs.Marks.{never_open}
 use Rattle.standing.specs.declared.Member.{Member}
-use Rattle.standing.specs.Readings.{Finding, whole, lacking, neither, one_open, by_mark, member_finds, ban_finds, other_answer, finding_reads, ban_reading, bans_reading, There, AllThere, Avoids}
+use Rattle.standing.specs.Readings.{Finding, whole, lacking, neither, one_open, by_mark, member_finds, ban_finds, finding_reads, ban_reading, bans_reading, There, AllThere, Avoids}
 use Rattle.job.specs.Layers.{before, reworded}
 use Rattle.job.specs.PinLaws.{apart}
 

@@ -1,22 +1,34 @@
 -- A job as a book, and its search.
-use Rattle.std.specs.Prelude.{ℕ, zero, suc, ◌+◌, ◌^◌, ◌≤◌, cond, List, [], ◌∷◌, ◌≢◌}
+use Rattle.std.specs.Prelude.{ℕ, zero, suc, ◌+◌, ◌^◌, ◌≤◌, cond, Option, Result, List, [], ◌∷◌, ◌≢◌}
 use Rattle.book.specs.declared.Mark.{Mark}
 use Rattle.book.specs.declared.Reading.{Reading}
-use Rattle.book.specs.Books.{open_mark}
+use Rattle.book.specs.Books.{open_mark, first_loud}
+use Rattle.refusal.specs.declared.At.{At}
+use Rattle.refusal.specs.declared.JobCause.{JobCause}
 use Rattle.solver.specs.declared.Ending.TheVariants.{Spent}
 use Rattle.solver.specs.declared.Verdict.{Verdict}
 use Rattle.standing.specs.Standing.{Standing}
-use Rattle.standing.specs.Readings.{or_else, pins_reading, bans_reading, Obeys, Avoids}
+use Rattle.standing.specs.Readings.{pins_reading, bans_reading, Obeys, Avoids}
 use Rattle.standing.specs.Rows.{standing_of}
+use Rattle.standing.specs.Table.{Does}
 use Rattle.job.specs.declared.Job.{Job}
 
 -- what stands on a job
 abbrev pub stands : {B : Type 0} → Job B → Standing
 stands j = standing_of j.pins j.bans
 
+-- the job over a book with a standing
+abbrev pub job_of : {B : Type 0} → B → Standing → Job B
+job_of b s = record { book = b; pins = s.pins; bans = s.bans }
+
+-- A call on a job that takes what stands on it to s where no ground for refusal stands; where one does, that is told and all
+-- stays. The book below stays in any case. j' is the job then.
+abbrev pub Orders : {B : Type 0} → Option (At JobCause) → Standing → Job B → Result (Unit {0}) (At JobCause) → Job B → Type 0
+Orders o s j r j' = Does o j (job_of j.book s) r j'
+
 -- the first that has something to say: the pins, the bans, the book below
 abbrev pub job_reading : Standing → (List Mark → Reading) → List Mark → Reading
-job_reading s reads ms = or_else (pins_reading s.pins ms) (or_else (bans_reading s.bans ms) (reads ms))
+job_reading s reads ms = first_loud (pins_reading s.pins ms) (first_loud (bans_reading s.bans ms) (reads ms))
 
 -- the book below allows the arrangement, each pin has its answer there, and no ban has all its members there
 pub record Permits (allows : List Mark → Type 0) (s : Standing) (a : List Mark) : Type 0 where

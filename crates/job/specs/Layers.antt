@@ -4,17 +4,16 @@ use Rattle.std.proofs.Common.{inl, inr}
 use Rattle.book.specs.declared.Mark.{Mark}
 use Rattle.book.specs.declared.Reading.{Reading}
 use Rattle.book.specs.declared.Reading.TheVariants.{Broken, Quiet, Forced}
-use Rattle.book.specs.Books.{Laws}
-use Rattle.standing.specs.Readings.{or_else}
+use Rattle.book.specs.Books.{Laws, first_loud}
 
 -- whose reading it is
-said : (r s x : Reading) → or_else r s ≡ x → (r ≡ x) ⊎ ((r ≡ Quiet) × (s ≡ x))
+said : (r s x : Reading) → first_loud r s ≡ x → (r ≡ x) ⊎ ((r ≡ Quiet) × (s ≡ x))
 said Broken s x e = inl e
 said (Forced c v) s x e = inl e
 said Quiet s x e = inr (refl, e)
 
 module _ (n : ℕ) (P Q : List Mark → Type 0) (R S : List Mark → Reading) (p : Laws n P R) (q : Laws n Q S) where
-  pub before : Laws n (λ a. P a × Q a) (λ ms. or_else (R ms) (S ms))
+  pub before : Laws n (λ a. P a × Q a) (λ ms. first_loud (R ms) (S ms))
   before =
       record {
         small = p.small;

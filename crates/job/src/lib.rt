@@ -6,8 +6,8 @@ ghost use Rattle.solver.specs.Outcome.{Alike, Means, Searched};
 ghost use Rattle.solver.specs.Tree.{TreeLaws};
 ghost use Rattle.standing.specs.Rows.{standing_of};
 ghost use Rattle.standing.specs.Standing.{nothing, with_pin, without_pin, with_ban, without_ban};
-ghost use Rattle.standing.specs.Table.{Does, pin_fault, free_fault, ban_fault, lift_fault};
-ghost use Rattle.job.specs.Jobs.{job_reading, stands, FewTrials, Permits};
+ghost use Rattle.standing.specs.Table.{pin_fault, free_fault, ban_fault, lift_fault};
+ghost use Rattle.job.specs.Jobs.{job_of, job_reading, stands, FewTrials, Orders, Permits};
 ghost use Rattle.job.specs.JobLaws.{job_laws};
 
 use book::{Answer, Book, Mark, Reading, SheetSize, Unfit};
@@ -29,8 +29,7 @@ pub struct Job<B> {
 impl<B: Book> Job<B> {
     /// A job over the book, with no pins and no bans.
     pub fn new(book: B) -> Job<B>
-        ensures over { result.book ≡ book }
-        ensures clear { stands result ≡ nothing }
+        ensures { result ≡ job_of book nothing }
     {
         Job {
             book,
@@ -62,8 +61,7 @@ impl<B: Book> Job<B> {
 
     /// Pins the choice to the answer, whatever pin was there.
     pub fn pin(&mut self, choice: u16, answer: Answer) -> Result<(), JobFault>
-        ensures does { Does (pin_fault (B.Book.size self.old.book) choice) (stands self.old) (with_pin (stands self.old) choice answer) result (stands self.new) }
-        ensures kept { self.new.book ≡ self.old.book }
+        ensures { Orders (pin_fault (B.Book.size self.old.book) choice) (with_pin (stands self.old) choice answer) self.old result self.new }
     {
         let n = self.sheet_size();
         self.pins.pin(n, choice, answer)
@@ -71,8 +69,7 @@ impl<B: Book> Job<B> {
 
     /// Takes the pin from the choice.
     pub fn free(&mut self, choice: u16) -> Result<(), JobFault>
-        ensures does { Does (free_fault (B.Book.size self.old.book) (stands self.old).pins choice) (stands self.old) (without_pin (stands self.old) choice) result (stands self.new) }
-        ensures kept { self.new.book ≡ self.old.book }
+        ensures { Orders (free_fault (B.Book.size self.old.book) (stands self.old).pins choice) (without_pin (stands self.old) choice) self.old result self.new }
     {
         let n = self.sheet_size();
         self.pins.free(n, choice)
@@ -80,8 +77,7 @@ impl<B: Book> Job<B> {
 
     /// Adds a ban of these members, at the end.
     pub fn ban(&mut self, members: &[Member]) -> Result<(), JobFault>
-        ensures does { Does (ban_fault (B.Book.size self.old.book) (length (stands self.old).bans) members.now) (stands self.old) (with_ban (stands self.old) members.now) result (stands self.new) }
-        ensures kept { self.new.book ≡ self.old.book }
+        ensures { Orders (ban_fault (B.Book.size self.old.book) (length (stands self.old).bans) members.now) (with_ban (stands self.old) members.now) self.old result self.new }
     {
         let n = self.sheet_size();
         self.bans.ban(n, members)
@@ -89,16 +85,14 @@ impl<B: Book> Job<B> {
 
     /// Takes the ban of that number away. Later ones move down by one.
     pub fn lift(&mut self, number: u16) -> Result<(), JobFault>
-        ensures does { Does (lift_fault (length (stands self.old).bans) number) (stands self.old) (without_ban (stands self.old) number) result (stands self.new) }
-        ensures kept { self.new.book ≡ self.old.book }
+        ensures { Orders (lift_fault (length (stands self.old).bans) number) (without_ban (stands self.old) number) self.old result self.new }
     {
         self.bans.lift(number)
     }
 
     /// Replaces all pins and bans.
     pub fn restore(&mut self, pins: Pins, bans: Bans)
-        ensures replaced { stands self.new ≡ standing_of pins bans }
-        ensures kept { self.new.book ≡ self.old.book }
+        ensures { self.new ≡ job_of self.old.book (standing_of pins bans) }
     {
         self.pins = pins;
         self.bans = bans;
@@ -128,10 +122,7 @@ impl<B: Book> Job<B> {
     fn sheet_size(&self) -> SheetSize
         ensures { result.value ≡ B.Book.size self.now.book }
     {
-        let Some(n) = SheetSize::new(self.choices()) else {
-            unreachable()
-        };
-        n
+        SheetSize::new(self.choices()).unwrap()
     }
 }
 
@@ -161,12 +152,11 @@ impl<B: Book> Book for Job<B> {
         if marks.len() != self.choices() as usize {
             return Err(Unfit);
         }
-        match self.pins.reading(marks) {
-            Reading::Quiet => match self.bans.reading(marks) {
-                Reading::Quiet => self.book.read(marks),
-                by_ban => Ok(by_ban),
-            },
-            by_pin => Ok(by_pin),
+        let by_pin = self.pins.reading(marks).loud();
+        let ordered = by_pin.or_else(|| self.bans.reading(marks).loud());
+        match ordered {
+            Some(reading) => Ok(reading),
+            None => self.book.read(marks),
         }
     }
 }

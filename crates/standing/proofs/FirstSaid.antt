@@ -1,31 +1,35 @@
--- What the first ban that has something to say says, from a ban on.
-use Rattle.std.proofs.Common.{◌≡◌, ℕ, ◌+◌, ◌<◌, ◌≤◌, List, map, length, get_or, drop, sym, refl, ap, ◌∙◌}
-use Rattle.std.proofs.lemmas.List.{at_drop_more, at_drop_all}
+-- What the first ban that has something to say says.
+use Rattle.std.proofs.Common.{◌≡◌, ℕ, zero, suc, ◌<◌, List, [], ◌∷◌, length, get_or, Some, None, Option, refl, ap, ◌∙◌, sym, arith}
+use Rattle.std.specs.Option.{MatchOption, unwrap_or}
 use Rattle.book.specs.declared.Mark.{Mark}
 use Rattle.book.specs.declared.Reading.{Reading}
 use Rattle.book.specs.declared.Reading.TheVariants.{Broken, Quiet, Forced}
-use Rattle.standing.specs.declared.bans.Ban.{Ban}
-use Rattle.standing.specs.Readings.{or_else, ban_reading, bans_reading}
-use Rattle.standing.specs.Rows.{members_of}
+use Rattle.book.specs.Books.{loud, first_loud}
+use Rattle.standing.specs.declared.Member.{Member}
+use Rattle.standing.specs.Readings.{ban_reading, bans_reading}
 
--- what bans say from the first of them on
-abbrev pub rest_says : List Mark → List Ban → Reading
-rest_says ms bs = bans_reading (map members_of bs) ms
+quiet_first : (r s : Reading) → loud r ≡ None → first_loud r s ≡ s
+quiet_first Broken s e = absurd cc
+quiet_first Quiet s e = refl
+quiet_first (Forced c v) s e = absurd cc
 
-spoken : (r s : Reading) → (r ≡ Quiet → ⊥) → or_else r s ≡ r
-spoken Broken s h = refl
-spoken (Forced c v) s h = refl
-spoken Quiet s h = absurd (h refl)
+loud_first : (r s y : Reading) → loud r ≡ Some y → first_loud r s ≡ y
+loud_first Broken s y e = cc
+loud_first Quiet s y e = absurd cc
+loud_first (Forced c v) s y e = cc
 
-module _ (ms : List Mark) (bs : List Ban) (i : ℕ) (h : i < length bs) (b : Ban) (at : b ≡ get_or bs i b) (r : Reading) (says : r ≡ ban_reading ms (members_of b)) where
-  stepped : rest_says ms (drop i bs) ≡ or_else r (rest_says ms (drop (i + 1) bs))
-  stepped = at_drop_more (rest_says ms) bs i b h ∙ ap (λ (x : Ban). or_else (ban_reading ms (members_of x)) (rest_says ms (drop (i + 1) bs))) (sym at) ∙ ap (λ (x : Reading). or_else x (rest_says ms (drop (i + 1) bs))) (sym says)
+module _ (ms : List Mark) where
+  -- what the ban at a place says, unless it is quiet
+  abbrev pub says : List (List Member) → ℕ → Option Reading
+  says bs k = loud (ban_reading ms (get_or bs k []))
 
-  pub said_here : (r ≡ Quiet → ⊥) → rest_says ms (drop i bs) ≡ r
-  said_here x = stepped ∙ spoken r (rest_says ms (drop (i + 1) bs)) x
+  -- nothing is said, or the first that is said
+  abbrev pub IsFirstSaid : List (List Member) → Option Reading → Type 0
+  IsFirstSaid bs r = MatchOption r ((k : ℕ) → k < length bs → says bs k ≡ None) (λ y. (i : ℕ) × (i < length bs) × (says bs i ≡ Some y) × ((k : ℕ) → k < i → says bs k ≡ None))
 
-  pub quiet_more : r ≡ Quiet → rest_says ms (drop i bs) ≡ rest_says ms (drop (i + 1) bs)
-  quiet_more x = stepped ∙ ap (λ (y : Reading). or_else y (rest_says ms (drop (i + 1) bs))) x
-
-pub quiet_all : (ms : List Mark) (bs : List Ban) (i : ℕ) → length bs ≤ i → rest_says ms (drop i bs) ≡ Quiet
-quiet_all ms bs i h = at_drop_all (rest_says ms) bs i h
+  pub first_said : (bs : List (List Member)) (r : Option Reading) → IsFirstSaid bs r → unwrap_or r Quiet ≡ bans_reading bs ms
+  first_said [] None h = refl
+  first_said [] (Some y) h = absurd (omega (arith, h.1))
+  first_said (b ∷ bs) None h = sym (quiet_first (ban_reading ms b) (bans_reading bs ms) (h 0 (omega arith)) ∙ sym (first_said bs None (λ k l. h (suc k) (omega arith))))
+  first_said (b ∷ bs) (Some y) (zero, l, e, h) = sym (loud_first (ban_reading ms b) (bans_reading bs ms) y e)
+  first_said (b ∷ bs) (Some y) (suc i, l, e, h) = sym (quiet_first (ban_reading ms b) (bans_reading bs ms) (h 0 (omega arith)) ∙ sym (first_said bs (Some y) (i, omega arith, e, λ k m. h (suc k) (omega arith))))

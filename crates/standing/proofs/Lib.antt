@@ -1,5 +1,5 @@
-pub mod Forced
 pub mod Findings
-pub mod Members
-pub mod Tables
 pub mod FirstSaid
+pub mod Forced
+pub mod Members
+pub mod Rows

@@ -6,14 +6,8 @@ use Rattle.book.specs.declared.Mark.{Mark}
 use Rattle.book.specs.declared.Mark.TheVariants.{Open, Yes, No}
 use Rattle.book.specs.declared.Reading.{Reading}
 use Rattle.book.specs.declared.Reading.TheVariants.{Broken, Quiet, Forced}
-use Rattle.book.specs.Books.{mark_of}
+use Rattle.book.specs.Books.{mark_of, other_answer, first_loud}
 use Rattle.standing.specs.declared.Member.{Member}
-
--- the first reading, unless it is quiet
-abbrev pub or_else : Reading → Reading → Reading
-or_else Broken r = Broken
-or_else (Forced c v) r = Forced c v
-or_else Quiet r = r
 
 -- the mark has the other answer than the pin
 abbrev pub opposed : Mark → Mark → Bool
@@ -86,10 +80,6 @@ abbrev pub ban_finds : List Mark → List Member → Finding
 ban_finds ms [] = whole
 ban_finds ms (m ∷ b) = member_finds ms m (ban_finds ms b)
 
-abbrev pub other_answer : Answer → Answer
-other_answer AnswerYes = AnswerNo
-other_answer AnswerNo = AnswerYes
-
 -- a ban with all its members there is broken; with all but one there, and that one open, the other answer is forced on it
 abbrev pub finding_reads : Finding → Reading
 finding_reads whole = Broken
@@ -102,7 +92,7 @@ ban_reading ms b = finding_reads (ban_finds ms b)
 -- the first ban, in order, that has something to say
 abbrev pub bans_reading : List (List Member) → List Mark → Reading
 bans_reading [] ms = Quiet
-bans_reading (b ∷ bs) ms = or_else (ban_reading ms b) (bans_reading bs ms)
+bans_reading (b ∷ bs) ms = first_loud (ban_reading ms b) (bans_reading bs ms)
 
 -- a member is there: its choice has its answer
 abbrev pub There : Member → List Mark → Type 0

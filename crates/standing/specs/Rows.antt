@@ -1,22 +1,24 @@
 -- What the tables hold.
-use Rattle.std.specs.Prelude.{List, map, take}
+use Rattle.std.specs.Prelude.{◌≡◌, ℕ, ◌-◌, ◌≤◌, List, ◌++◌, length, take, replicate}
+use Rattle.std.proofs.Common.{ap, arith, length-append}
+use Rattle.std.proofs.lemmas.List.{length-take, length-replicate}
+use Rattle.book.specs.declared.Answer.TheVariants.{No}
 use Rattle.book.specs.declared.Mark.{Mark}
 use Rattle.standing.specs.declared.Member.{Member}
-use Rattle.standing.specs.declared.bans.Ban.{Ban}
-use Rattle.standing.specs.declared.bans.Bans.{Bans}
-use Rattle.standing.specs.declared.pins.Pins.{Pins}
 use Rattle.standing.specs.Standing.{Standing}
 
-abbrev pub pins_of : Pins → List Mark
-pins_of p = p.marks
+-- what a row holds past its members
+abbrev pub no_member : Member
+no_member = record { choice = 0; answer = No }
 
--- the members of a ban: the first rows of its table
-abbrev pub members_of : Ban → List Member
-members_of b = take b.count b.members
+-- the row of some members
+abbrev pub row_of : List Member → List Member
+row_of ms = ms ++ replicate (8 - length ms) no_member
 
--- the bans that stand: the first rows of the table
-abbrev pub bans_of : Bans → List (List Member)
-bans_of b = map members_of (take b.count b.rows)
+-- a row shows how many members it has
+pub counted_back : (n : ℕ) (row : List Member) → n ≤ 8 → row ≡ row_of (take n row) → length (take n row) ≡ n
+counted_back n row h e =
+    omega (arith, length-take n row, ap length e, length-append (take n row) (replicate (8 - length (take n row)) no_member), length-replicate (8 - length (take n row)) no_member)
 
-abbrev pub standing_of : Pins → Bans → Standing
-standing_of p b = record { pins = pins_of p; bans = bans_of b }
+abbrev pub standing_of : List Mark → List (List Member) → Standing
+standing_of ps bs = record { pins = ps; bans = bs }

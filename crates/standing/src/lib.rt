@@ -5,23 +5,23 @@
 //! order in which they were made. Both tables have their full size from the start, so no call on them can run out of memory.
 #![tactic(auto)]
 
-ghost use Rattle.std.specs.Prelude.{◌≡◌};
+ghost use Rattle.std.specs.Prelude.{◌≡◌, ◌-◌, ◌<◌, IfOk};
 ghost use Rattle.std.specs.Result.{result_err};
-ghost use Rattle.standing.specs.Table.{outside, pin_fault};
+ghost use Rattle.standing.specs.Steps.{place_of, choice_cause};
 
+pub use book::MAX_CHOICES;
 use book::{Answer, SheetSize};
 use refusal::{JobCause, JobFault};
 
+mod ban;
 mod bans;
 mod pins;
 #[cfg(test)]
 mod tests;
 
-pub use bans::{Ban, Bans};
+pub use ban::Ban;
+pub use bans::Bans;
 pub use pins::Pins;
-
-/// The most choices that a sheet has.
-pub const MAX_CHOICES: usize = 4096;
 
 /// The most bans that stand.
 pub const MAX_BANS: usize = 64;
@@ -36,11 +36,21 @@ pub struct Member {
     pub answer: Answer,
 }
 
-/// Whether a sheet of `n` choices has no such choice.
-fn is_outside(n: SheetSize, choice: u16) -> bool
-    ensures { result ≡ outside n.value choice }
+/// The place in a list of so many entries of the one with that number, where there is one. Numbers begin at 1.
+fn place_of(count: usize, number: u16) -> Option<usize>
+    ensures { result ≡ place_of count number }
 {
-    choice == 0 || choice > n.get()
+    usize::from(number)
+        .checked_sub(1)
+        .filter(|place| *place < count)
+}
+
+/// The place of a choice in a list for a sheet of `n` choices.
+fn place_on(n: SheetSize, choice: u16) -> Result<usize, JobCause>
+    ensures told { result_err result ≡ choice_cause n.value choice }
+    ensures place { IfOk result (λ p. (p ≡ choice - 1) × (p < 4096)) }
+{
+    place_of(usize::from(n.get()), choice).ok_or(JobCause::Choice)
 }
 
 /// A fault that has no place within a list.
@@ -48,14 +58,4 @@ fn fault(cause: JobCause) -> JobFault
     ensures { result ≡ record { cause = cause; place = 0 } }
 {
     JobFault { cause, place: 0 }
-}
-
-/// Refuses a choice that a sheet of `n` choices has not.
-fn check_choice(n: SheetSize, choice: u16) -> Result<(), JobFault>
-    ensures { result_err result ≡ pin_fault n.value choice }
-{
-    if is_outside(n, choice) {
-        return Err(fault(JobCause::Choice));
-    }
-    Ok(())
 }

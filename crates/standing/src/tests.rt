@@ -30,12 +30,11 @@ fn members(rt: HostRuntime) -> Result<(), Fail> {
         yes(9),
     ];
     for count in 0..10 {
-        let expected = if count == 0 || count == 9 {
-            Err(fault(JobCause::MemberCount))
-        } else {
-            Ok(())
+        let expected = match count {
+            1..=8 => Ok(()),
+            _ => Err(fault(JobCause::MemberCount)),
         };
-        assert_eq!(rt; Bans::new().ban(nine()?, &all[0..count]), expected);
+        assert_eq!(rt; Bans::new().ban(nine()?, &all[..count]), expected);
     }
     Ok(())
 }
@@ -62,11 +61,10 @@ fn lifts(rt: HostRuntime) -> Result<(), Fail> {
     }
     bans.lift(2)?;
     assert_eq!(rt; bans.lift(4), Err(fault(JobCause::NoSuchBan)));
-    let [first, second, third] = bans.rows() else {
-        return Err(Fail::new("three bans are left"));
-    };
-    assert_eq!(rt; first.members(), [yes(1)].as_slice());
-    assert_eq!(rt; second.members(), [yes(3)].as_slice());
-    assert_eq!(rt; third.members(), [yes(4)].as_slice());
+    let left = [yes(1), yes(3), yes(4)];
+    assert_eq!(rt; bans.len(), left.len());
+    for (ban, member) in bans.rows().iter().zip(&left) {
+        assert_eq!(rt; ban.members(), [*member].as_slice());
+    }
     Ok(())
 }

@@ -1,0 +1,13 @@
+-- A row that is filled with members.
+use Rattle.std.proofs.Common.{◌≡◌, List, ◌++◌, length, take, drop, replicate, sym, ap, ◌∙◌}
+use Rattle.std.proofs.Math.Seq.{take-append_seam}
+use Rattle.std.proofs.lemmas.List.{drop-replicate}
+use Rattle.standing.specs.declared.Member.{Member}
+use Rattle.standing.specs.Rows.{no_member, row_of}
+
+module _ (ms xs : List Member) (e : xs ≡ ms) where
+  pub shown : (zs : List Member) → take (length ms) (xs ++ zs) ≡ ms
+  shown zs = rw e (take-append_seam ms zs)
+
+  pub filled : xs ++ drop (length ms) (replicate 8 no_member) ≡ row_of (take (length ms) (xs ++ drop (length ms) (replicate 8 no_member)))
+  filled = rw (shown (drop (length ms) (replicate 8 no_member)), e, drop-replicate (length ms) 8 no_member)
