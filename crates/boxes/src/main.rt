@@ -14,13 +14,7 @@ const BLOCK: usize = 65536;
 
 /// How many rows end in a block.
 fn row_ends(block: &[u8]) -> usize {
-    let mut ends: usize = 0;
-    for b in block {
-        if *b == b'\n' {
-            ends = ends.saturating_add(1);
-        }
-    }
-    ends
+    block.iter().filter(|b| **b == b'\n').count()
 }
 
 /// Reads standard input block by block, to its end or until the text has too many boxes, which no further bytes can mend.
@@ -33,8 +27,8 @@ fn read_input(rt: &HostRuntime) -> io::Result<Vec<u8>> {
     // Nothing says that an input ends, so the blocks are counted.
     for _ in 0..u64::MAX {
         let n = input.read(&mut block)?;
-        text.extend_from_slice(&block[0..n])?;
-        ends = ends.saturating_add(row_ends(&block[0..n]));
+        text.extend_from_slice(&block[..n])?;
+        ends = ends.saturating_add(row_ends(&block[..n]));
         if n == 0 || (ends >= BOX_LIMIT && has_too_many(text.as_slice())) {
             break;
         }
@@ -46,10 +40,7 @@ fn main(rt: HostRuntime) -> io::Result<()> {
     let text = read_input(&rt)?;
     let mut out = [0; MOST_OUTPUT];
     match set_boxes(text.as_slice(), ALLOWANCE, &mut out) {
-        Ok(n) => rt.stdout().write_all(&out[0..n]),
-        Err(fault) => {
-            let refusal = Refusal::from(fault);
-            println!(rt; "refused {} at {} layer job", refusal.number, refusal.place)
-        }
+        Ok(n) => rt.stdout().write_all(&out[..n]),
+        Err(fault) => rt.println(Refusal::from(fault)),
     }
 }

@@ -14,7 +14,7 @@ fn run_boxes(rt: &HostRuntime, path: &str) -> anyhow::Result<()> {
         return Err(anyhow!("the verdict is too long"));
     };
     println!(rt; "{path}")?;
-    rt.stdout().write_all(&out[0..n])?;
+    rt.stdout().write_all(&out[..n])?;
     Ok(())
 }
 

@@ -2,9 +2,7 @@
 use book::{Answer, Book, Mark};
 use box_book::{BoxBook, NameBox};
 use job::Job;
-use rule_book::RuleBook;
-use rule_store::read_file;
-use rules::{MAX_COUNTS, MAX_ENTRIES, MAX_RULES, NO_COUNT, NO_RULE};
+use rule_store::Storage;
 use solver::{Ending, Verdict};
 use standing::Member;
 use std::test::Fail;
@@ -37,15 +35,12 @@ fn none(trials: u64) -> Verdict {
 
 #[test]
 fn worked_sheet(rt: HostRuntime) -> Result<(), Fail> {
-    let mut rules = [NO_RULE; MAX_RULES];
-    let mut counts = [NO_COUNT; MAX_COUNTS];
-    let mut entries = [0; MAX_ENTRIES];
+    let mut storage = Storage::new();
     let file = b"p 3 2\n, { 1 1 1 2 }\n1 , 3\n";
-    let Ok(extent) = read_file(file, &mut rules, &mut counts, &mut entries) else {
+    let Ok(book) = storage.read(file) else {
         return Err(Fail::new("the file is refused"));
     };
-    let rows = &rules[0..extent.rules as usize];
-    let mut job = Job::new(RuleBook::new(extent.size, rows, &counts, &entries));
+    let mut job = Job::new(book);
     job.pin(3, Answer::No)?;
     assert_eq!(rt; searched(&job, 9)?, (found(0), [N, Y, N]));
     job.pin(1, Answer::Yes)?;

@@ -6,16 +6,11 @@ ghost use Rattle.std.specs.Prelude.{◌≡◌, length};
 ghost use Rattle.models.specs.Arrangements.{mark_yes, arranged, Tells};
 
 use anyhow::anyhow;
-use book::{Book, Mark, Reading};
-use rule_book::RuleBook;
-use rule_store::read_file;
-use rules::{MAX_COUNTS, MAX_ENTRIES, MAX_RULES, NO_COUNT, NO_RULE};
+use book::{Book, MAX_CHOICES, Mark, Reading};
+use rule_store::Storage;
 use setting::{ALLOWANCE, MOST_OUTPUT, print_search};
 use std::fs;
 use std::io::Write;
-
-/// The most choices that a sheet has.
-const MAX_CHOICES: usize = 4096;
 
 /// A set of atoms that may be a model, by the choices that they are.
 #[derive(Clone, Copy)]
@@ -81,9 +76,9 @@ const COVER: Example = Example {
 fn mark_yes(marks: &mut [Mark], choice: u16)
     ensures { marks.new ≡ mark_yes choice marks.old }
 {
-    let choice = choice as usize;
-    if choice > 0 && choice <= marks.len() {
-        marks[choice - 1] = Mark::Yes;
+    let place = choice.checked_sub(1);
+    if let Some(mark) = place.and_then(|place| marks.get_mut(usize::from(place))) {
+        *mark = Mark::Yes;
     }
 }
 
@@ -104,7 +99,7 @@ fn allows<B: Book>(book: &B, yes: &[u16]) -> bool
 {
     let n = book.choices() as usize;
     let mut marks = [Mark::Open; MAX_CHOICES];
-    let marks = &mut marks[0..n];
+    let marks = &mut marks[..n];
     arrange(marks, yes);
     let Ok(reading) = book.read(marks) else {
         unreachable()
@@ -126,21 +121,17 @@ fn tell<B: Book>(rt: &HostRuntime, book: &B, candidates: &[Candidate]) -> anyhow
     let Ok(n) = print_search(book, ALLOWANCE, &mut out) else {
         return Err(anyhow!("the verdict is too long"));
     };
-    rt.stdout().write_all(&out[0..n])?;
+    rt.stdout().write_all(&out[..n])?;
     Ok(())
 }
 
 /// Reads a rule file, and tells of its book.
 fn run(rt: &HostRuntime, example: &Example) -> anyhow::Result<()> {
     let file = fs::read(rt, example.path)?;
-    let mut rules = [NO_RULE; MAX_RULES];
-    let mut counts = [NO_COUNT; MAX_COUNTS];
-    let mut entries = [0; MAX_ENTRIES];
-    let Ok(extent) = read_file(file.as_slice(), &mut rules, &mut counts, &mut entries) else {
+    let mut storage = Storage::new();
+    let Ok(book) = storage.read(file.as_slice()) else {
         return Err(anyhow!("the rule file is refused"));
     };
-    let rows = &rules[0..extent.rules as usize];
-    let book = RuleBook::new(extent.size, rows, &counts, &entries);
     println!(rt; "{}", example.path)?;
     tell(rt, &book, example.candidates)
 }

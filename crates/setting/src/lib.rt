@@ -5,14 +5,12 @@ ghost use Rattle.std.specs.Prelude.{◌≤◌, length, IfOk};
 ghost use Rattle.setting.specs.Sheets.{SearchPrinted, SheetPrinted};
 ghost use Rattle.setting.specs.Boxes.{BoxesPrinted};
 
-use book::{Book, Mark};
+use book::{Book, MAX_CHOICES, Mark};
 use box_book::{BOX_LIMIT, BoxBook, NO_BOX};
 use box_list::read_boxes;
 use printing::{Position, print_refusal, print_refusal_at, print_verdict};
 use refusal::{JobFault, Refusal};
-use rule_book::RuleBook;
-use rule_store::read_file;
-use rules::{MAX_COUNTS, MAX_ENTRIES, MAX_RULES, NO_COUNT, NO_RULE};
+use rule_store::Storage;
 use solver::search;
 
 /// The trials that the programs allow a search.
@@ -20,9 +18,6 @@ pub const ALLOWANCE: u64 = 1_000_000;
 
 /// More bytes than the longest verdict takes: 4,096 choices of at most five bytes each, and the first line.
 pub const MOST_OUTPUT: usize = 32768;
-
-/// The most choices that a sheet has.
-const MAX_CHOICES: usize = 4096;
 
 /// Searches a book and prints the verdict.
 pub fn print_search<B: Book>(book: &B, allowance: u64, out: &mut [u8]) -> Result<usize, JobFault>
@@ -32,8 +27,8 @@ pub fn print_search<B: Book>(book: &B, allowance: u64, out: &mut [u8]) -> Result
     let n = book.choices() as usize;
     let mut marks = [Mark::Open; MAX_CHOICES];
     let mut work = [0; MAX_CHOICES];
-    let marks = &mut marks[0..n];
-    let Ok(verdict) = search(book, allowance, marks, &mut work[0..n]) else {
+    let marks = &mut marks[..n];
+    let Ok(verdict) = search(book, allowance, marks, &mut work[..n]) else {
         unreachable()
     };
     print_verdict(out, verdict, marks)
@@ -44,15 +39,9 @@ pub fn set_sheet(file: &[u8], allowance: u64, out: &mut [u8]) -> Result<usize, J
     ensures printed { SheetPrinted file.now allowance out.old out.new result }
     ensures within { IfOk result (λ n. n ≤ length out.old) }
 {
-    let mut rules = [NO_RULE; MAX_RULES];
-    let mut counts = [NO_COUNT; MAX_COUNTS];
-    let mut entries = [0; MAX_ENTRIES];
-    match read_file(file, &mut rules, &mut counts, &mut entries) {
-        Ok(extent) => {
-            let rows = &rules[0..extent.rules as usize];
-            let book = RuleBook::new(extent.size, rows, &counts, &entries);
-            print_search(&book, allowance, out)
-        }
+    let mut storage = Storage::new();
+    match storage.read(file) {
+        Ok(book) => print_search(&book, allowance, out),
         Err(fault) => print_refusal(out, Refusal::from(fault), fault.line),
     }
 }
@@ -64,10 +53,7 @@ pub fn set_boxes(text: &[u8], allowance: u64, out: &mut [u8]) -> Result<usize, J
 {
     let mut boxes = [NO_BOX; BOX_LIMIT];
     match read_boxes(text, &mut boxes) {
-        Ok(n) => {
-            let book = BoxBook::of(&boxes[0..n]);
-            print_search(&book, allowance, out)
-        }
+        Ok(n) => print_search(&BoxBook::of(&boxes[..n]), allowance, out),
         Err(fault) => print_refusal_at(out, Refusal::from(fault), Position::Row(fault.row)),
     }
 }

@@ -13,6 +13,7 @@ use std::io::{Read, Write};
 const MOST_BYTES: usize = 65536;
 
 /// Fills the buffer from standard input, as far as the input goes.
+// A loop over an index: the library fills a slice whole or not at all, or reads into memory that can run out.
 fn read_input(rt: &HostRuntime, buffer: &mut [u8]) -> io::Result<usize>
     ensures { IfOk result (λ n. n ≤ length buffer.old) }
 {
@@ -32,11 +33,8 @@ fn main(rt: HostRuntime) -> io::Result<()> {
     let mut file = [0; MOST_BYTES];
     let len = read_input(&rt, &mut file)?;
     let mut out = [0; MOST_OUTPUT];
-    match set_sheet(&file[0..len], ALLOWANCE, &mut out) {
-        Ok(n) => rt.stdout().write_all(&out[0..n]),
-        Err(fault) => {
-            let refusal = Refusal::from(fault);
-            println!(rt; "refused {} at {} layer job", refusal.number, refusal.place)
-        }
+    match set_sheet(&file[..len], ALLOWANCE, &mut out) {
+        Ok(n) => rt.stdout().write_all(&out[..n]),
+        Err(fault) => rt.println(Refusal::from(fault)),
     }
 }

@@ -1,21 +1,15 @@
 //! Rule books written out, and the limits of that.
 use refusal::Refusal;
-use rule_book::RuleBook;
-use rule_store::read_file;
+use rule_store::Storage;
 use rule_text::write_rules;
-use rules::{MAX_COUNTS, MAX_ENTRIES, MAX_RULES, NO_COUNT, NO_RULE};
 use std::test::Fail;
 
 /// Reads a file and writes its book out: how many bytes that takes, or the number of the refusal to write.
 fn rewrite(file: &[u8], out: &mut [u8]) -> Result<Result<usize, u8>, Fail> {
-    let mut rules = [NO_RULE; MAX_RULES];
-    let mut counts = [NO_COUNT; MAX_COUNTS];
-    let mut entries = [0; MAX_ENTRIES];
-    let Ok(extent) = read_file(file, &mut rules, &mut counts, &mut entries) else {
+    let mut storage = Storage::new();
+    let Ok(book) = storage.read(file) else {
         return Err(Fail::new("the file is refused"));
     };
-    let rows = &rules[0..extent.rules as usize];
-    let book = RuleBook::new(extent.size, rows, &counts, &entries);
     match write_rules(&book, out) {
         Ok(n) => Ok(Ok(n)),
         Err(fault) => Ok(Err(Refusal::from(fault).number)),
