@@ -19,18 +19,8 @@ fn searched<B: Book>(job: &Job<B>, allowance: u64) -> Result<(Verdict, [Mark; 3]
     Ok((verdict, marks))
 }
 
-fn found(trials: u64) -> Verdict {
-    Verdict {
-        ending: Ending::Found,
-        trials,
-    }
-}
-
-fn none(trials: u64) -> Verdict {
-    Verdict {
-        ending: Ending::None,
-        trials,
-    }
+fn verdict(ending: Ending, trials: u64) -> Verdict {
+    Verdict { ending, trials }
 }
 
 #[test]
@@ -42,23 +32,26 @@ fn worked_sheet(rt: HostRuntime) -> Result<(), Fail> {
     };
     let mut job = Job::new(book);
     job.pin(3, Answer::No)?;
-    assert_eq!(rt; searched(&job, 9)?, (found(0), [N, Y, N]));
+    assert_eq!(rt; searched(&job, 9)?, (verdict(Ending::Found, 0), [N, Y, N]));
     job.pin(1, Answer::Yes)?;
-    assert_eq!(rt; searched(&job, 9)?, (none(0), [Mark::Open; 3]));
+    assert_eq!(rt;
+        searched(&job, 9)?,
+        (verdict(Ending::None, 0), [Mark::Open; 3])
+    );
     job.free(3)?;
-    assert_eq!(rt; searched(&job, 9)?, (found(0), [Y, N, Y]));
+    assert_eq!(rt; searched(&job, 9)?, (verdict(Ending::Found, 0), [Y, N, Y]));
     job.free(1)?;
     let member = Member {
         choice: 1,
         answer: Answer::Yes,
     };
     job.ban(&[member])?;
-    assert_eq!(rt; searched(&job, 1)?, (found(1), [N, Y, Y]));
+    assert_eq!(rt; searched(&job, 1)?, (verdict(Ending::Found, 1), [N, Y, Y]));
     let mut above = Job::new(job);
     above.pin(3, Answer::No)?;
     assert_eq!(rt;
         searched(&above, 1)?,
-        (found(0), [N, Y, N]),
+        (verdict(Ending::Found, 0), [N, Y, N]),
         "a job over a job"
     );
     Ok(())
@@ -90,10 +83,13 @@ fn boxes(rt: HostRuntime) -> Result<(), Fail> {
         },
     ];
     let mut job = Job::new(BoxBook::of(&rows));
-    assert_eq!(rt; searched(&job, 9)?, (found(1), [Y, N, Y]));
+    assert_eq!(rt; searched(&job, 9)?, (verdict(Ending::Found, 1), [Y, N, Y]));
     job.pin(2, Answer::Yes)?;
-    assert_eq!(rt; searched(&job, 9)?, (found(0), [N, Y, Y]));
+    assert_eq!(rt; searched(&job, 9)?, (verdict(Ending::Found, 0), [N, Y, Y]));
     job.pin(3, Answer::No)?;
-    assert_eq!(rt; searched(&job, 9)?, (none(0), [Mark::Open; 3]));
+    assert_eq!(rt;
+        searched(&job, 9)?,
+        (verdict(Ending::None, 0), [Mark::Open; 3])
+    );
     Ok(())
 }

@@ -1,39 +1,15 @@
 //! Box lists that are written out, and what is printed of them.
+use super::cases::{all_hold, prints, repeated, says};
 use box_list::has_too_many;
 use setting::set_boxes;
 use std::alloc::{AllocError, Global};
-use std::process::Abort;
 use std::test::Fail;
-
-/// The text of a box list, and what is printed.
-#[derive(Clone, Copy)]
-struct Case {
-    text: &'static [u8],
-    says: &'static [u8],
-}
-
-const fn prints(text: &'static [u8], says: &'static [u8]) -> Case {
-    Case { text, says }
-}
-
-fn says(rt: &impl Abort, text: &[u8], expected: &[u8], what: &str) -> Result<(), Fail> {
-    let mut out = [0; 128];
-    let n = set_boxes(text, 1_000_000, &mut out)?;
-    assert_eq!(rt; &out[0..n], expected, "{what}");
-    Ok(())
-}
-
-fn all_hold(rt: &impl Abort, cases: &[Case]) -> Result<(), Fail> {
-    for c in cases {
-        says(rt, c.text, c.says, "a row of the table")?;
-    }
-    Ok(())
-}
 
 #[test]
 fn verdicts(rt: HostRuntime) -> Result<(), Fail> {
     all_hold(
         &rt,
+        &set_boxes,
         &[
             prints(
                 b"1,0,0,10,10\n1,20,0,30,10\n2,5,5,15,15\n",
@@ -60,6 +36,7 @@ fn verdicts(rt: HostRuntime) -> Result<(), Fail> {
 fn names(rt: HostRuntime) -> Result<(), Fail> {
     all_hold(
         &rt,
+        &set_boxes,
         &[
             prints(b"0,0,0,1,1\n", b"refused 21 at 0 row 1\n"),
             prints(b"512,0,0,1,1\n", b"found 0\n1\n"),
@@ -83,6 +60,7 @@ fn names(rt: HostRuntime) -> Result<(), Fail> {
 fn edges(rt: HostRuntime) -> Result<(), Fail> {
     all_hold(
         &rt,
+        &set_boxes,
         &[
             prints(b"1,0,0,20000,20000\n", b"found 0\n1\n"),
             prints(b"1,0,0,20001,1\n", b"refused 22 at 0 row 1\n"),
@@ -104,11 +82,7 @@ fn edges(rt: HostRuntime) -> Result<(), Fail> {
 
 /// A text that begins so, with that many boxes after it.
 fn boxes(heap: Global, begin: &[u8], times: usize) -> Result<Vec<u8>, AllocError> {
-    let mut text = Vec::from_slice(heap, begin)?;
-    for _ in 0..times {
-        text.extend_from_slice(b"1,0,0,1,1\n")?;
-    }
-    Ok(text)
+    repeated(heap, begin, b"1,0,0,1,1\n", times, b"")
 }
 
 #[test]
@@ -116,12 +90,21 @@ fn most(rt: HostRuntime) -> Result<(), Fail> {
     let heap = rt.alloc();
     let all = boxes(heap, b"", 4096)?;
     assert!(rt; !has_too_many(all.as_slice()));
-    says(&rt, all.as_slice(), b"found 1\n1\n", "4,096 boxes")?;
+    says(
+        &rt,
+        &set_boxes,
+        all.as_slice(),
+        1_000_000,
+        b"found 1\n1\n",
+        "4,096 boxes",
+    )?;
     let over = boxes(heap, b"", 4097)?;
     assert!(rt; has_too_many(over.as_slice()));
     says(
         &rt,
+        &set_boxes,
         over.as_slice(),
+        1_000_000,
         b"refused 20 at 4096 row 4097\n",
         "4,097 boxes",
     )?;
@@ -130,7 +113,9 @@ fn most(rt: HostRuntime) -> Result<(), Fail> {
     let bad = boxes(heap, b"name\n0\n", 4096)?;
     says(
         &rt,
+        &set_boxes,
         bad.as_slice(),
+        1_000_000,
         b"refused 20 at 4096 row 4098\n",
         "too many boxes come first",
     )

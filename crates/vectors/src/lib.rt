@@ -4,6 +4,8 @@
 #[cfg(test)]
 mod box_lists;
 #[cfg(test)]
+mod cases;
+#[cfg(test)]
 mod limits;
 #[cfg(test)]
 mod small;

@@ -1,42 +1,19 @@
 //! Files that are written out, and what is printed of them.
+use super::cases::{Case, all_hold, prints};
 use setting::set_sheet;
-use std::process::Abort;
 use std::test::Fail;
-
-/// A file, an allowance, and what is printed.
-#[derive(Clone, Copy)]
-struct Case {
-    file: &'static [u8],
-    allowance: u64,
-    says: &'static [u8],
-}
-
-const fn prints(file: &'static [u8], says: &'static [u8]) -> Case {
-    Case {
-        file,
-        allowance: 1_000_000,
-        says,
-    }
-}
-
-fn holds(rt: &impl Abort, case: &Case) -> Result<(), Fail> {
-    let mut out = [0; 128];
-    let n = set_sheet(case.file, case.allowance, &mut out)?;
-    assert_eq!(rt; &out[0..n], case.says);
-    Ok(())
-}
 
 #[test]
 fn verdicts(rt: HostRuntime) -> Result<(), Fail> {
     let cases = [
         prints(b"p 3 2\n, { 1 1 1 2 }\n1 , 3\n", b"found 1\n1 3\n"),
         Case {
-            file: b"p 3 2\n, { 1 1 1 2 }\n1 , 3\n",
+            text: b"p 3 2\n, { 1 1 1 2 }\n1 , 3\n",
             allowance: 1,
             says: b"found 1\n1 3\n",
         },
         Case {
-            file: b"p 3 2\n, { 1 1 1 2 }\n1 , 3\n",
+            text: b"p 3 2\n, { 1 1 1 2 }\n1 , 3\n",
             allowance: 0,
             says: b"spent 0\n",
         },
@@ -44,7 +21,7 @@ fn verdicts(rt: HostRuntime) -> Result<(), Fail> {
         prints(b"p 0 1\n,\n", b"none 0\n"),
         prints(b"p 2 1\n{ 1 2 1 2 } ,\n", b"found 2\n\n"),
         Case {
-            file: b"p 2 1\n{ 1 2 1 2 } ,\n",
+            text: b"p 2 1\n{ 1 2 1 2 } ,\n",
             allowance: 1,
             says: b"spent 1\n",
         },
@@ -53,10 +30,7 @@ fn verdicts(rt: HostRuntime) -> Result<(), Fail> {
         prints(b"p 001 1\n, 01\n", b"found 0\n1\n"),
         prints(b"p 2 1\n, { 2 1 1 2 }\n", b"none 0\n"),
     ];
-    for c in &cases {
-        holds(&rt, c)?;
-    }
-    Ok(())
+    all_hold(&rt, &set_sheet, &cases)
 }
 
 #[test]
@@ -93,8 +67,5 @@ fn refusals(rt: HostRuntime) -> Result<(), Fail> {
         prints(b"p 3 0\nx\n", b"refused 11 at 6 line 2\n"),
         prints(b"p 3 0\n65536 ,\n", b"refused 12 at 6 line 2\n"),
     ];
-    for c in &cases {
-        holds(&rt, c)?;
-    }
-    Ok(())
+    all_hold(&rt, &set_sheet, &cases)
 }
