@@ -1,12 +1,12 @@
 -- Numbers in storage have 16 bits, so that those of its rules are small.
-use Rattle.std.proofs.Common.{◌≡◌, ℕ, ◌+◌, ◌<◌, ◌≤◌, List, [], ◌∷◌, length, get_or, drop, Some, None, Option, sym, subst}
+use Rattle.std.proofs.Common.{◌≡◌, ℕ, ◌+◌, ◌<◌, ◌≤◌, List, [], ◌∷◌, length, get_or, drop, Some, None, Option}
 use Rattle.std.specs.List.{All}
 use Rattle.std.specs.Option.{OnSome}
 use Rattle.std.proofs.lemmas.List.Elements.{All-nil, All-cons, All-head, All-tail, All-append}
 use Rattle.std.proofs.lemmas.List.{drop_more, drop_all}
 use Rattle.rules.specs.declared.CountRow.{CountRow}
 use Rattle.rules.specs.declared.RuleRow.{RuleRow}
-use Rattle.rules.specs.Rules.{choice, count, Rule}
+use Rattle.rules.specs.Rules.{choice, count}
 use Rattle.rules.specs.Storage.{run, choices, items, rule_of, decode}
 use Rattle.rule_text.specs.Back.{Small, SmallItem, SmallRule}
 

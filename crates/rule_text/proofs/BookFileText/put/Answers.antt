@@ -25,9 +25,6 @@ pub returns-in_err-at-clause-text : goal.returns-in_err-at-clause-text
 returns-in_err-at-clause-text c =
     rw c.from_residual.ensures (same_text (whole c.args.self.now.book.now c.choices.result c.rules-rules.result.now c.choices.ensures c.rules-rules.ensures) (cut _ _ c.in_err-at.ensures.text))
 
-pub loop-row-init : goal.loop-row-init
-loop-row-init c = ((λ out' r w. w), λ rest. rest)
-
 pub returns-in_err-at-2-clause-text : goal.returns-in_err-at-2-clause-text
 returns-in_err-at-2-clause-text c =
     let text = rules_more c.rules-rules.result.now c.args.self.now.book.now.counts.now c.args.self.now.book.now.entries.now c.loop-row.row-index no_row c.loop-row-test.true in

@@ -1,11 +1,5 @@
-use Rattle.std.proofs.Common.{List, sym, refl, ap, subst}
-use Rattle.std.specs.List.{All}
-use Rattle.output.proofs.Pieces.{same_text, onward, onward_cut, onward_same}
+use Rattle.output.proofs.Pieces.{onward, onward_cut, onward_same}
 use Rattle.rules.specs.declared.CountRow.{CountRow}
-use Rattle.rules.specs.Storage.{items}
-use Rattle.rule_text.specs.Writing.{items_tokens}
-use Rattle.rule_text.specs.Padding.{all_padded}
-use Rattle.rule_text.specs.Back.{SmallItem}
 use Rattle.rule_text.proofs.Lines.{row_text, rest_text}
 use Rattle.rule_text.proofs.Bounds.{row_small, rest_small, if_some_then}
 use Rattle.rule_text.proofs.ItemsText.put.Goals as goal
