@@ -9,12 +9,12 @@ ghost use Rattle.output.specs.Writing.{Wrote, Unwritten, within, WroteWhole};
 
 use itoa::Buffer;
 
-/// A text that is written piece after piece. Texts one after another are a tuple of them.
+/// A text that is written piece after piece.
 // Not std's Display: its contract doesn't say when a writing fails, so that a text that has room could be refused.
 pub trait Text {
     ghost bytes: { Self → List ℕ };
 
-    // What is known of the text once it is written, as how large its numbers are.
+    // What writing the text shows of it, as how large its numbers are.
     ghost known: { Self → Type 0 } = { λ _. Unit {0} };
 
     /// Writes as much of the text as there is room for at a place, and answers the place after the whole text, or None
@@ -70,6 +70,7 @@ impl<'a> Text for &'a str {
     }
 }
 
+// Numbers in decimal. One impl for each type: one over all of itoa's integers could not say how large a number is.
 impl Text for u64 {
     ghost bytes = { decimal };
 
@@ -110,6 +111,7 @@ impl Text for u8 {
     }
 }
 
+// Texts one after another. One impl for each length, since no impl is over all of them.
 impl<A: Text, B: Text> Text for (A, B) {
     ghost bytes = { λ parts. A.bytes parts.0 ++ B.bytes parts.1 };
 

@@ -40,7 +40,7 @@ struct Refused {
 }
 
 /// The word for an ending.
-// A table by hand, since the programs print no variant by its name.
+// By hand: the words are fixed text of the output and not the variants' names, which Debug writes.
 fn word_of(ending: Ending) -> &'static str
     ensures { result.now ≡ word ending }
 {

@@ -1,6 +1,7 @@
 -- The texts that the code writes, put together, are the lines of the writing.
 use Rattle.std.proofs.Common.{◌≡◌, ℕ, suc, ◌+◌, ◌<◌, ◌≤◌, List, [], ◌∷◌, ◌++◌, length, get_or, drop, codes, decimal, sym, refl, ap, ◌∙◌, append_assoc, append-nil}
 use Rattle.std.proofs.lemmas.List.{at_drop_more, at_drop_all}
+use Rattle.std.proofs.lemmas.Grind.{flat_map-append}
 use Rattle.rules.specs.declared.CountRow.{CountRow}
 use Rattle.rules.specs.declared.RuleRow.{RuleRow}
 use Rattle.rules.specs.Rules.{Item, count, Rule}
@@ -10,14 +11,6 @@ use Rattle.rule_text.specs.declared.Spacing.TheVariants.{After, Before}
 use Rattle.rule_text.specs.Writing.{numerals, item_tokens, items_tokens, rule_tokens, header_tokens, spaced, line_text, rule_lines, writing}
 use Rattle.rule_text.specs.Padding.{padded, all_padded}
 
-padded_append : (s : Spacing) (ts us : List (List ℕ)) → all_padded s (ts ++ us) ≡ all_padded s ts ++ all_padded s us
-padded_append s [] us = refl
-padded_append s (t ∷ ts) us = ap (λ (r : List ℕ). padded s t ++ r) (padded_append s ts us) ∙ sym (append_assoc (padded s t) (all_padded s ts) (all_padded s us))
-
-tokens_append : (is js : List Item) → items_tokens (is ++ js) ≡ items_tokens is ++ items_tokens js
-tokens_append [] js = refl
-tokens_append (i ∷ is) js = ap (λ (r : List (List ℕ)). item_tokens i ++ r) (tokens_append is js) ∙ sym (append_assoc (item_tokens i) (items_tokens is) (items_tokens js))
-
 choices_tokens : (cs : List ℕ) → items_tokens (choices cs) ≡ numerals cs
 choices_tokens [] = refl
 choices_tokens (c ∷ cs) = ap (λ (r : List (List ℕ)). decimal c ∷ r) (choices_tokens cs)
@@ -25,8 +18,8 @@ choices_tokens (c ∷ cs) = ap (λ (r : List (List ℕ)). decimal c ∷ r) (choi
 -- items, one part after the other
 side_append : (s : Spacing) (cs : List ℕ) (is : List Item) → all_padded s (items_tokens (choices cs ++ is)) ≡ all_padded s (numerals cs) ++ all_padded s (items_tokens is)
 side_append s cs is =
-    ap (all_padded s) (tokens_append (choices cs) is ∙ ap (λ (r : List (List ℕ)). r ++ items_tokens is) (choices_tokens cs)) ∙
-    padded_append s (numerals cs) (items_tokens is)
+    ap (all_padded s) (flat_map-append item_tokens (choices cs) is ∙ ap (λ (r : List (List ℕ)). r ++ items_tokens is) (choices_tokens cs)) ∙
+    flat_map-append (padded s) (numerals cs) (items_tokens is)
 
 -- choices, one by one
 pub choices_more : (s : Spacing) (cs : List ℕ) (i : ℕ) → i < length cs → all_padded s (numerals (drop i cs)) ≡ padded s (decimal (get_or cs i 0)) ++ all_padded s (numerals (drop (i + 1) cs))
@@ -36,22 +29,18 @@ pub choices_all : (s : Spacing) (cs : List ℕ) (i : ℕ) → length cs ≤ i �
 choices_all s cs i h = at_drop_all (λ (xs : List ℕ). all_padded s (numerals xs)) cs i h
 
 -- a count
-pub count_text : (s : Spacing) (k m : ℕ) (cs : List ℕ) → all_padded s (item_tokens (count k m cs)) ≡ padded s (codes "{") ++ (padded s (decimal k) ++ (padded s (decimal m) ++ (all_padded s (numerals cs) ++ padded s (codes "}"))))
-count_text s k m cs =
-    ap (λ (r : List ℕ). padded s (codes "{") ++ (padded s (decimal k) ++ (padded s (decimal m) ++ r)))
-    (padded_append s (numerals cs) (codes "}" ∷ []) ∙ ap (λ (r : List ℕ). all_padded s (numerals cs) ++ r) (append-nil (padded s (codes "}"))))
+pub count_text : (s : Spacing) (k m : ℕ) (cs : List ℕ) → all_padded s (item_tokens (count k m cs)) ≡ padded s (codes "{") ++ ((padded s (decimal k) ++ padded s (decimal m)) ++ (all_padded s (numerals cs) ++ padded s (codes "}")))
+count_text s k m cs = rw (flat_map-append (padded s) (numerals cs) (codes "}" ∷ []), append-nil, append_assoc)
 
 -- a count row of a side: the choices before it, l, and the count of the choices cs
-pub row_text : (s : Spacing) (xs : List ℕ) (a b : ℕ) (ks : List CountRow) (i : ℕ) (d : CountRow) (l cs : List ℕ) → i < length ks → l ≡ run a (get_or ks i d).choices.start xs → cs ≡ run (get_or ks i d).choices.start (get_or ks i d).choices.end xs → all_padded s (items_tokens (items xs a b (drop i ks))) ≡ all_padded s (numerals l) ++ (all_padded s (item_tokens (count (get_or ks i d).lower (get_or ks i d).upper cs)) ++ all_padded s (items_tokens (items xs (get_or ks i d).choices.end b (drop (i + 1) ks))))
+pub row_text : (s : Spacing) (xs : List ℕ) (a b : ℕ) (ks : List CountRow) (i : ℕ) (d : CountRow) (l cs : List ℕ) → i < length ks → l ≡ run a (get_or ks i d).choices.start xs → cs ≡ run (get_or ks i d).choices.start (get_or ks i d).choices.end xs → all_padded s (items_tokens (items xs a b (drop i ks))) ≡ (all_padded s (numerals l) ++ all_padded s (item_tokens (count (get_or ks i d).lower (get_or ks i d).upper cs))) ++ all_padded s (items_tokens (items xs (get_or ks i d).choices.end b (drop (i + 1) ks)))
 row_text s xs a b ks i d l cs h el ec =
     let k : CountRow = get_or ks i d in
     let rest : List Item = items xs k.choices.end b (drop (i + 1) ks) in
-    let here : Item = count k.lower k.upper (run k.choices.start k.choices.end xs) in
     at_drop_more (λ (js : List CountRow). all_padded s (items_tokens (items xs a b js))) ks i d h ∙
-    side_append s (run a k.choices.start xs) (here ∷ rest) ∙
-    ap (λ (y : List ℕ). all_padded s (numerals y) ++ all_padded s (item_tokens here ++ items_tokens rest)) (sym el) ∙
-    ap (λ (y : List ℕ). all_padded s (numerals l) ++ y) (padded_append s (item_tokens here) (items_tokens rest)) ∙
-    ap (λ (y : List ℕ). all_padded s (numerals l) ++ (all_padded s (item_tokens (count k.lower k.upper y)) ++ all_padded s (items_tokens rest))) (sym ec)
+    rw (← el, ← ec) (side_append s l (count k.lower k.upper cs ∷ rest)) ∙
+    ap (λ (y : List ℕ). all_padded s (numerals l) ++ y) (flat_map-append (padded s) (item_tokens (count k.lower k.upper cs)) (items_tokens rest)) ∙
+    sym (append_assoc (all_padded s (numerals l)) (all_padded s (item_tokens (count k.lower k.upper cs))) (all_padded s (items_tokens rest)))
 
 -- past the last count row the choices l are left
 pub rest_text : (s : Spacing) (xs : List ℕ) (a b : ℕ) (ks : List CountRow) (i : ℕ) (l : List ℕ) → length ks ≤ i → l ≡ run a b xs → all_padded s (items_tokens (items xs a b (drop i ks))) ≡ all_padded s (numerals l)
@@ -80,7 +69,7 @@ text_of_rule r =
     ap (λ (y : List ℕ). y ++ codes "\n") (spaced_after (items_tokens r.body) (codes ",") (items_tokens r.head) ∙ ap (λ (y : List ℕ). all_padded After (items_tokens r.body) ++ y) (spaced_before (codes ",") (items_tokens r.head))) ∙
     append_assoc (all_padded After (items_tokens r.body)) (codes "," ++ all_padded Before (items_tokens r.head)) (codes "\n")
 
-pub header_text : (n m : ℕ) → line_text (header_tokens n m) ≡ codes "p " ++ (decimal n ++ (codes " " ++ (decimal m ++ codes "\n")))
+header_text : (n m : ℕ) → line_text (header_tokens n m) ≡ (codes "p " ++ decimal n) ++ ((codes " " ++ decimal m) ++ codes "\n")
 header_text n m = ap (λ (y : List ℕ). codes "p " ++ y) (append_assoc (decimal n) (codes " " ++ decimal m) (codes "\n"))
 
 -- the lines of the rules, one by one
@@ -95,6 +84,8 @@ length_decode [] cs xs = refl
 length_decode (r ∷ rs) cs xs = ap (λ (k : ℕ). suc k) (length_decode rs cs xs)
 
 -- the whole, by the number of rows
-pub writing_text : (n : ℕ) (rs : List RuleRow) (cs : List CountRow) (xs : List ℕ) → writing n (decode rs cs xs) ≡ line_text (header_tokens n (length rs)) ++ rule_lines (decode rs cs xs)
+pub writing_text : (n : ℕ) (rs : List RuleRow) (cs : List CountRow) (xs : List ℕ) → writing n (decode rs cs xs) ≡ ((codes "p " ++ decimal n) ++ ((codes " " ++ decimal (length rs)) ++ codes "\n")) ++ rule_lines (decode rs cs xs)
 unfolding writing
-writing_text n rs cs xs = ap (λ (m : ℕ). line_text (header_tokens n m) ++ rule_lines (decode rs cs xs)) (length_decode rs cs xs)
+writing_text n rs cs xs =
+    ap (λ (m : ℕ). line_text (header_tokens n m) ++ rule_lines (decode rs cs xs)) (length_decode rs cs xs) ∙
+    ap (λ (y : List ℕ). y ++ rule_lines (decode rs cs xs)) (header_text n (length rs))

@@ -1,8 +1,8 @@
 -- What is written reads back.
 use Rattle.std.proofs.Common.{◌≡◌, ℕ, ◌+◌, ◌-◌, ◌*◌, ◌/◌, ◌%◌, ◌<◌, ◌≤◌, ◌≢◌, List, [], ◌∷◌, ◌++◌, length, codes, decimal, sym, refl, ap, ◌∙◌, subst, append_assoc, append-nil, arith}
-use Rattle.std.specs.List.{AllByRecursion}
+use Rattle.std.specs.List.{All}
 use Rattle.std.proofs.lemmas.Fmt.{decimal_by_steps}
-use Rattle.std.proofs.ByRecursion.{All-append, All-weaker}
+use Rattle.std.proofs.lemmas.List.Elements.{All-nil, All-cons, All-head, All-tail, All-append, All-weaker, All-from_recursion, recursion_from_All}
 use Rattle.scan.specs.Text.{First, IsDigit, NoDigit, InOneLine, value, Mark, an_opening, a_closing, a_comma, Spells, nothing, space, mark, digits, SpellsLine, headed, unheaded, ReadsFrom, file_end, whole_line}
 use Rattle.scan.specs.Words.{Word, line, header, number, opening, closing, comma, feed, end, Placed}
 use Rattle.rules.specs.Rules.{Item, choice, count, Rule}
@@ -20,13 +20,13 @@ value_more v (x ∷ t) b = value_more (v * 10 + (x - 48)) t b
 
 -- digits of that value, at least one
 abbrev Numeral : ℕ → List ℕ → Type 0
-Numeral n ds = (d : ℕ) × (t : List ℕ) × (ds ≡ d ∷ t) × AllByRecursion IsDigit (d ∷ t) × (value 0 (d ∷ t) ≡ n)
+Numeral n ds = (d : ℕ) × (t : List ℕ) × (ds ≡ d ∷ t) × All IsDigit (d ∷ t) × (value 0 (d ∷ t) ≡ n)
 
 numeral : (n : ℕ) → Small n → Numeral n (decimal n)
 numeral n h = decimal_by_steps Numeral one_digit one_more n h
   where
     one_digit : (n : ℕ) → n < 10 → Numeral n ((48 + n) ∷ [])
-    one_digit n l = (48 + n, [], refl, ((omega arith, omega arith), tt), omega arith)
+    one_digit n l = (48 + n, [], refl, All-cons IsDigit (48 + n) [] (omega arith, omega arith) (All-nil IsDigit), omega arith)
 
     one_more : (n : ℕ) (ds : List ℕ) → 10 ≤ n → Numeral (n / 10) ds → Numeral n (ds ++ ((48 + n % 10) ∷ []))
     one_more n ds l x =
@@ -35,9 +35,17 @@ numeral n h = decimal_by_steps Numeral one_digit one_more n h
           x.0,
           x.1 ++ ((48 + n % 10) ∷ []),
           ap (λ (z : List ℕ). z ++ ((48 + n % 10) ∷ [])) x.2,
-          All-append IsDigit (x.0 ∷ x.1) ((48 + n % 10) ∷ []) x.3 ((omega arith, omega arith), tt),
+          All-append IsDigit (x.0 ∷ x.1) ((48 + n % 10) ∷ []) x.3 (All-cons IsDigit (48 + n % 10) [] (omega arith, omega arith) (All-nil IsDigit)),
           omega arith,
         )
+
+-- Lines of the grammar.
+
+in_one_line : (t : List ℕ) → All (λ b. b ≢ 10) t → InOneLine t
+in_one_line t h = recursion_from_All (λ b. b ≢ 10) t h
+
+unbroken : (t : List ℕ) → InOneLine t → All (λ b. b ≢ 10) t
+unbroken t h = All-from_recursion (λ b. b ≢ 10) t h
 
 -- Tokens, each with its word.
 
@@ -57,18 +65,19 @@ record Tells (t : List ℕ) (w : Word) : Type 0 where
 number_tells : (n : ℕ) → Small n → Tells (decimal n) (number n)
 number_tells n h =
     let x = numeral n h in
+    let digit = All-head IsDigit x.0 x.1 x.3 in
     record {
       spells = λ i rest vs apart k.
           let r = k (i + length (x.0 ∷ x.1)) in (
             (i, number (value 0 (x.0 ∷ x.1))) ∷ r.0,
-            subst (λ (z : List ℕ). Spells i (z ++ rest) ((i, number (value 0 (x.0 ∷ x.1))) ∷ r.0)) (sym x.2) (digits i x.0 x.1 rest r.0 x.3 apart r.1),
+            subst (λ (z : List ℕ). Spells i (z ++ rest) ((i, number (value 0 (x.0 ∷ x.1))) ∷ r.0)) (sym x.2) (digits i x.0 x.1 rest r.0 (recursion_from_All IsDigit (x.0 ∷ x.1) x.3) apart r.1),
             ap (λ (z : ℕ). number z ∷ words_only r.0) x.4 ∙ ap (λ (z : List Word). number n ∷ z) r.2,
           );
-      one_line = subst InOneLine (sym x.2) (All-weaker IsDigit (λ b. b ≢ 10) (λ b d e. omega (arith, d.0)) (x.0 ∷ x.1) x.3);
+      one_line = subst InOneLine (sym x.2) (in_one_line (x.0 ∷ x.1) (All-weaker IsDigit (λ b. b ≢ 10) (λ b d e. omega (arith, d.0)) (x.0 ∷ x.1) x.3));
       first = x.0;
       after = x.1;
       starts = x.2;
-      plain = ((λ e. omega (arith, x.3.0.1)), λ e. omega (arith, x.3.0.1));
+      plain = ((λ e. omega (arith, digit.1)), λ e. omega (arith, digit.1));
     }
 
 mark_tells : (b : ℕ) (w : Word) → Mark b w → (b ≢ 10) × (b ≢ 112) × (b ≢ 99) → Tells (b ∷ []) w
@@ -113,7 +122,7 @@ spaced_line [] vs a = tt
 spaced_line (t ∷ ts) [] a = absurd a
 spaced_line (t ∷ []) (v ∷ vs) a = a.0.one_line
 spaced_line (t ∷ u ∷ ts) (v ∷ vs) a =
-    All-append (λ b. b ≢ 10) t (32 ∷ spaced (u ∷ ts)) a.0.one_line ((λ e. omega arith), spaced_line (u ∷ ts) vs a.1)
+    in_one_line (t ++ (32 ∷ spaced (u ∷ ts))) (All-append (λ b. b ≢ 10) t (32 ∷ spaced (u ∷ ts)) (unbroken t a.0.one_line) (All-cons (λ b. b ≢ 10) 32 (spaced (u ∷ ts)) (λ e. omega arith) (unbroken (spaced (u ∷ ts)) (spaced_line (u ∷ ts) vs a.1))))
 
 first_of : (P : ℕ → Type 0) (t : List ℕ) (b : ℕ) (bs rest : List ℕ) → t ≡ b ∷ bs → P b → First P (t ++ rest)
 first_of P t b bs rest e p = subst (λ (z : List ℕ). First P (z ++ rest)) (sym e) p
@@ -177,9 +186,9 @@ items_words (i ∷ is) = item_words i ++ items_words is
 abbrev rule_words : Rule → List Word
 rule_words r = items_words r.body ++ (comma ∷ items_words r.head)
 
-numbers_tell : (cs : List ℕ) → AllByRecursion Small cs → AllTell (numerals cs) (numbers cs)
+numbers_tell : (cs : List ℕ) → All Small cs → AllTell (numerals cs) (numbers cs)
 numbers_tell [] h = tt
-numbers_tell (c ∷ cs) h = (number_tells c h.0, numbers_tell cs h.1)
+numbers_tell (c ∷ cs) h = (number_tells c (All-head Small c cs h), numbers_tell cs (All-tail Small c cs h))
 
 item_tells : (i : Item) → SmallItem i → AllTell (item_tokens i) (item_words i)
 item_tells (choice c) h = (number_tells c h, tt)
@@ -194,9 +203,9 @@ item_tells (count k m cs) h = (
   ),
 )
 
-items_tell : (is : List Item) → AllByRecursion SmallItem is → AllTell (items_tokens is) (items_words is)
+items_tell : (is : List Item) → All SmallItem is → AllTell (items_tokens is) (items_words is)
 items_tell [] h = tt
-items_tell (i ∷ is) h = tell_append (item_tokens i) (items_tokens is) (item_words i) (items_words is) (item_tells i h.0) (items_tell is h.1)
+items_tell (i ∷ is) h = tell_append (item_tokens i) (items_tokens is) (item_words i) (items_words is) (item_tells i (All-head SmallItem i is h)) (items_tell is (All-tail SmallItem i is h))
 
 rule_tells : (r : Rule) → SmallRule r → AllTell (rule_tokens r) (rule_words r)
 rule_tells r h =
@@ -223,10 +232,10 @@ rule_form r ps =
     ap (λ (z : List Word). items_words r.body ++ (comma ∷ z)) (items_form r.head (part.RuleEnd ∷ ps)) ∙
     sym (append_assoc (items_words r.body) (comma ∷ items_words r.head) (feed ∷ all_written ps)))
 
-rules_read : (rs : List Rule) → AllByRecursion SmallRule rs → (i : ℕ) → ReadAs i (rule_lines rs) (all_written (rules_parts rs (part.End ∷ [])))
+rules_read : (rs : List Rule) → All SmallRule rs → (i : ℕ) → ReadAs i (rule_lines rs) (all_written (rules_parts rs (part.End ∷ [])))
 rules_read [] h i = ((i, end) ∷ [], file_end i, refl)
 rules_read (r ∷ rs) h i =
-    let k = tokens_read i (rule_tokens r) (rule_words r) (rule_lines rs) (all_written (rules_parts rs (part.End ∷ []))) (rule_tells r h.0) (λ j. rules_read rs h.1 j) in
+    let k = tokens_read i (rule_tokens r) (rule_words r) (rule_lines rs) (all_written (rules_parts rs (part.End ∷ []))) (rule_tells r (All-head SmallRule r rs h)) (λ j. rules_read rs (All-tail SmallRule r rs h) j) in
     (k.0, k.1, k.2 ∙ sym (rule_form r (rules_parts rs (part.End ∷ []))))
 
 pub reads_back : WritingsReadBack
@@ -235,21 +244,21 @@ reads_back n rs hn hm h = header_reads 0 n (length rs) (rule_lines rs) (all_writ
 
 -- Within the limits all numbers are small.
 
-choices_small : (n : ℕ) (cs : List ℕ) → n ≤ 4096 → AllChoices n cs → AllByRecursion Small cs
-choices_small n [] s h = tt
-choices_small n (c ∷ cs) s h = (omega (arith, h.0.1), choices_small n cs s h.1)
+choices_small : (n : ℕ) (cs : List ℕ) → n ≤ 4096 → AllChoices n cs → All Small cs
+choices_small n [] s h = All-nil Small
+choices_small n (c ∷ cs) s h = All-cons Small c cs (omega (arith, h.0.1)) (choices_small n cs s h.1)
 
 item_small : (n : ℕ) (i : Item) → n ≤ 4096 → GoodItem n i → SmallItem i
 item_small n (choice c) s h = omega (arith, h.1)
 item_small n (count k m cs) s h = (omega (arith, h.0), omega (arith, h.1), choices_small n cs s h.2)
 
-items_small : (n : ℕ) (is : List Item) → n ≤ 4096 → GoodItems n is → AllByRecursion SmallItem is
-items_small n [] s h = tt
-items_small n (i ∷ is) s h = (item_small n i s h.0, items_small n is s h.1)
+items_small : (n : ℕ) (is : List Item) → n ≤ 4096 → GoodItems n is → All SmallItem is
+items_small n [] s h = All-nil SmallItem
+items_small n (i ∷ is) s h = All-cons SmallItem i is (item_small n i s h.0) (items_small n is s h.1)
 
-rules_small : (n : ℕ) (rs : List Rule) → n ≤ 4096 → GoodRules n rs → AllByRecursion SmallRule rs
-rules_small n [] s h = tt
-rules_small n (r ∷ rs) s h = ((items_small n r.body s h.0, items_small n r.head s h.1), rules_small n rs s h.2)
+rules_small : (n : ℕ) (rs : List Rule) → n ≤ 4096 → GoodRules n rs → All SmallRule rs
+rules_small n [] s h = All-nil SmallRule
+rules_small n (r ∷ rs) s h = All-cons SmallRule r rs (items_small n r.body s h.0, items_small n r.head s h.1) (rules_small n rs s h.2)
 
 pub are_files : WritingsAreFiles
 are_files n rs w l =

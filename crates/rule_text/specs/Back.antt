@@ -1,6 +1,6 @@
 -- What is written reads back.
 use Rattle.std.specs.Prelude.{◌≡◌, ℕ, ◌^◌, ◌<◌, ◌≤◌, List, length, take}
-use Rattle.std.specs.List.{AllByRecursion}
+use Rattle.std.specs.List.{All}
 use Rattle.rules.specs.declared.CountRow.{CountRow}
 use Rattle.rules.specs.declared.RuleRow.{RuleRow}
 use Rattle.rules.specs.Rules.{Item, choice, count, Rule}
@@ -16,14 +16,14 @@ Small v = v < 2 ^ 64
 
 abbrev pub SmallItem : Item → Type 0
 SmallItem (choice c) = Small c
-SmallItem (count k m cs) = Small k × Small m × AllByRecursion Small cs
+SmallItem (count k m cs) = Small k × Small m × All Small cs
 
 abbrev pub SmallRule : Rule → Type 0
-SmallRule r = AllByRecursion SmallItem r.body × AllByRecursion SmallItem r.head
+SmallRule r = All SmallItem r.body × All SmallItem r.head
 
 -- Theorem: what is written spells a file with the same n and the same rules.
 abbrev pub WritingsReadBack : Type 0
-WritingsReadBack = (n : ℕ) (rs : List Rule) → Small n → Small (length rs) → AllByRecursion SmallRule rs → SpellsFile (writing n rs) n (length rs) rs
+WritingsReadBack = (n : ℕ) (rs : List Rule) → Small n → Small (length rs) → All SmallRule rs → SpellsFile (writing n rs) n (length rs) rs
 
 -- Theorem: within the limits, it is a file of those rules.
 abbrev pub WritingsAreFiles : Type 0

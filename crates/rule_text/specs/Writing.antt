@@ -1,5 +1,6 @@
 -- Rules as they are written.
-use Rattle.std.specs.Prelude.{◌≡◌, ℕ, ◌<◌, ◌≤◌, ◌⊎◌, List, [], ◌∷◌, ◌++◌, length, Ok, Err, codes, decimal, Result}
+use Rattle.std.specs.Prelude.{◌≡◌, ℕ, ◌<◌, ◌≤◌, ◌⊎◌, List, [], ◌∷◌, ◌++◌, length, Ok, Err, map, codes, decimal, Result}
+use Rattle.std.specs.List.{flat_map, join_with_byte}
 use Rattle.output.specs.Writing.{Fits}
 use Rattle.rules.specs.Rules.{Item, choice, count, Rule}
 use Rattle.rule_file.specs.declared.fault.Fault.TheVariants.{File}
@@ -8,16 +9,14 @@ use Rattle.rule_file.specs.declared.fault.FileFault.{FileFault}
 
 -- Tokens are texts.
 abbrev pub numerals : List ℕ → List (List ℕ)
-numerals [] = []
-numerals (c ∷ cs) = decimal c ∷ numerals cs
+numerals cs = map decimal cs
 
 abbrev pub item_tokens : Item → List (List ℕ)
 item_tokens (choice c) = decimal c ∷ []
 item_tokens (count k m cs) = codes "{" ∷ decimal k ∷ decimal m ∷ (numerals cs ++ (codes "}" ∷ []))
 
 abbrev pub items_tokens : List Item → List (List ℕ)
-items_tokens [] = []
-items_tokens (i ∷ is) = item_tokens i ++ items_tokens is
+items_tokens is = flat_map item_tokens is
 
 -- the body items, a comma and the head items
 abbrev pub rule_tokens : Rule → List (List ℕ)
@@ -29,16 +28,13 @@ header_tokens n m = codes "p" ∷ decimal n ∷ decimal m ∷ []
 
 -- texts with one space between them
 abbrev pub spaced : List (List ℕ) → List ℕ
-spaced [] = []
-spaced (t ∷ []) = t
-spaced (t ∷ u ∷ ts) = t ++ (codes " " ++ spaced (u ∷ ts))
+spaced ts = join_with_byte 32 ts
 
 abbrev pub line_text : List (List ℕ) → List ℕ
 line_text ts = spaced ts ++ codes "\n"
 
 abbrev pub rule_lines : List Rule → List ℕ
-rule_lines [] = []
-rule_lines (r ∷ rs) = line_text (rule_tokens r) ++ rule_lines rs
+rule_lines rs = flat_map (λ r. line_text (rule_tokens r)) rs
 
 -- A book with that n and those rules, written out.
 unfoldable pub writing : ℕ → List Rule → List ℕ
