@@ -79,11 +79,11 @@ module _ (reads : List Mark → Reading) where
   single {ms} {t} {u} {o} {p} (yes_side _ t₀ a e h x) y =
       elim (next_at ms u p Quiet true e (lt-ltb (first_open ms) (length ms) h) y) [
         | inl k ↦ (let i = single x k.2 in (omega (arith, i.0, k.3), i.1 ∙ sym k.4))
-        | inr k ↦ absurd (let i : Some a ≡ None = (single x k.2).1 in let z : ◌≡◌ {A = ℕ} 0 1 = cc in omega arith)
+        | inr k ↦ absurd (let i : Some a ≡ None = (single x k.2).1 in cc)
       ]
   single {ms} {t} {u} {o} {p} (no_side _ t₀ u₀ _ e h x z) y =
       elim (next_at ms u p Quiet true e (lt-ltb (first_open ms) (length ms) h) y) [
-        | inl k ↦ absurd (let i : None ≡ Some k.1 = (single x k.2).1 in let z : ◌≡◌ {A = ℕ} 0 1 = cc in omega arith)
+        | inl k ↦ absurd (let i : None ≡ Some k.1 = (single x k.2).1 in cc)
         | inr k ↦ (let i = single x k.2 in let j = single z k.3 in (omega (arith, i.0, j.0, k.4), j.1))
       ]
 

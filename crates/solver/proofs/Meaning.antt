@@ -47,7 +47,7 @@ module _ (n : ℕ) (allows : List Mark → Type 0) (reads : List Mark → Readin
   first_of (broken ms e) l = λ b al x. laws.broken ms l e b al x
   first_of (settled ms e h) l =
       let st : Settled ms = λ k q o. before_first ms k (omega arith) o in
-      let al : allows ms = elim (laws.settled ms l st) [ inl y ↦ y.1 | inr y ↦ absurd (let r : Quiet ≡ Broken = sym e ∙ y.0 in let z : ◌≡◌ {A = ℕ} 0 1 = cc in omega arith) ] in
+      let al : allows ms = elim (laws.settled ms l st) [ inl y ↦ y.1 | inr y ↦ absurd (let r : Quiet ≡ Broken = sym e ∙ y.0 in cc) ] in
       (al, (refl, λ k v q. q), λ b bl y. inl (only_itself ms b st y))
   first_of (forced ms c v t o e x) l =
       let f = laws.forced_open ms c v l e in

@@ -20,13 +20,13 @@ none_of : (t a : ℕ) (o : Option (List Mark)) (v : Verdict) → Says t o a v �
 none_of t a None v s e = refl
 none_of t a (Some x) v s e =
     elim (cases_lt a t) [
-      | inl q ↦ absurd (let p : v.ending ≡ Spent = ap (λ (u : Verdict). u.ending) (s.short q) in let z : ◌≡◌ {A = ℕ} 0 1 = cc in omega arith)
-      | inr q ↦ absurd (let p : v.ending ≡ Found = ap (λ (u : Verdict). u.ending) (s.enough q) in let z : ◌≡◌ {A = ℕ} 0 1 = cc in omega arith)
+      | inl q ↦ absurd (let p : v.ending ≡ Spent = ap (λ (u : Verdict). u.ending) (s.short q) in cc)
+      | inr q ↦ absurd (let p : v.ending ≡ Found = ap (λ (u : Verdict). u.ending) (s.enough q) in cc)
     ]
 
 spent_of : (t a : ℕ) (o : Option (List Mark)) (v : Verdict) → Says t o a v → v.ending ≡ Spent → t ≤ a → ⊥
-spent_of t a None v s e q = let p : v.ending ≡ NoneAllowed = ap (λ (u : Verdict). u.ending) (s.enough q) in let z : ◌≡◌ {A = ℕ} 0 1 = cc in omega arith
-spent_of t a (Some x) v s e q = let p : v.ending ≡ Found = ap (λ (u : Verdict). u.ending) (s.enough q) in let z : ◌≡◌ {A = ℕ} 0 1 = cc in omega arith
+spent_of t a None v s e q = let p : v.ending ≡ NoneAllowed = ap (λ (u : Verdict). u.ending) (s.enough q) in cc
+spent_of t a (Some x) v s e q = let p : v.ending ≡ Found = ap (λ (u : Verdict). u.ending) (s.enough q) in cc
 
 module _ (n : ℕ) (allows : List Mark → Type 0) (reads : List Mark → Reading) (laws : Laws n allows reads) where
   -- whatever is allowed extends open marks
@@ -60,8 +60,8 @@ module _ (n : ℕ) (allows : List Mark → Type 0) (reads : List Mark → Readin
 
     marks_at : (e : Ending) → (e ≡ Found → r.end ≡ Some ms') → ((e ≡ Found → ⊥) → ms' ≡ replicate n Open) → MarksAfter n e r.end ms'
     marks_at Found f g = f refl
-    marks_at NoneAllowed f g = g (λ e. let z : ◌≡◌ {A = ℕ} 0 1 = cc in omega arith)
-    marks_at Spent f g = g (λ e. let z : ◌≡◌ {A = ℕ} 0 1 = cc in omega arith)
+    marks_at NoneAllowed f g = g (λ e. cc)
+    marks_at Spent f g = g (λ e. cc)
 
     pub finished : (ms₀ : List Mark) (w₀ w' : List ℕ) → length ms₀ ≡ n → length w₀ ≡ n → ((v.ending ≡ Found → ⊥) → ms' ≡ replicate n Open) → w' ≡ replicate n 0 → Finished n reads a ms₀ w₀ ms' w' v
     finished ms₀ w₀ w' lm lw cleared z =

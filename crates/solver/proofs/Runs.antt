@@ -10,7 +10,7 @@ use Rattle.book.specs.declared.Reading.{Reading}
 use Rattle.book.specs.declared.Reading.TheVariants.{Broken, Quiet, Forced}
 use Rattle.book.specs.Books.{mark_of, open_mark}
 use Rattle.solver.specs.declared.trail.Step.{Step}
-use Rattle.solver.specs.Steps.{place_of, trail_of, Held, Unwinds}
+use Rattle.solver.specs.Steps.{place_of, Held, Unwinds}
 use Rattle.solver.specs.Tree.{first_open, opens}
 use Rattle.solver.specs.Marks.{opens_set, opens_unset, opens_keep, first_is, not_open, set_back}
 use Rattle.solver.proofs.Trails.{step}
@@ -59,7 +59,7 @@ pend_tick true t r q = after_tick r.found t r q
 
 after_found : (o : Option (List Mark)) (r q : Run) (a : List Mark) → o ≡ Some a → after_of o r q ≡ r
 after_found (Some b) r q a e = refl
-after_found None r q a e = absurd (let z : ◌≡◌ {A = ℕ} 0 1 = cc in omega arith)
+after_found None r q a e = cc
 
 pend_found : (b : Bool) (r q : Run) (a : List Mark) → r.found ≡ Some a → cond b (after r q) r ≡ r
 pend_found false r q a e = refl
@@ -140,42 +140,40 @@ module _ (reads : List Mark → Reading) where
       let x : explore (opens ms) ms ≡ ended None = at_any (λ r. r ≡ ended None) (opens ms) ms (λ rec. rw e) in
       ap (finish (opens ms) st ms) x ∙ finish_tick (opens ms) st ms 0 (run 0 0 None)
 
-  abbrev Turned : List Mark → List Mark → List ℕ → ℕ → Run → Type 0
-  Turned ms ms' w k r = (r ≡ rest (trail_of k w) ms') × Held (trail_of k w) ms' × (length ms' ≡ length ms)
+  abbrev Turned : List Mark → List Mark → List Step → Run → Type 0
+  Turned ms ms' st' r = (r ≡ rest st' ms') × Held st' ms' × (length ms' ≡ length ms)
 
-  turned_at : (b : Bool) (c : ℕ) (st : List Step) (ms ms' : List Mark) (w : List ℕ) (d k : ℕ) → Held (step c b ∷ st) ms →
-      (Unwinds st (slice_set ms (c - 1) Open) ms' w (d - 1) (Some k) → Turned (slice_set ms (c - 1) Open) ms' w k (finish (opens (slice_set ms (c - 1) Open)) st (slice_set ms (c - 1) Open) (run 0 0 None))) →
-      Unwinds (step c b ∷ st) ms ms' w d (Some k) →
-      Turned ms ms' w k (finish (opens ms) (step c b ∷ st) ms (run 0 0 None))
-  turned_at true c st ms ms' w d k h ih u =
+  turned_at : (b : Bool) (c : ℕ) (st st' : List Step) (ms ms' : List Mark) → Held (step c b ∷ st) ms →
+      (Unwinds st (slice_set ms (c - 1) Open) ms' st' true → Turned (slice_set ms (c - 1) Open) ms' st' (finish (opens (slice_set ms (c - 1) Open)) st (slice_set ms (c - 1) Open) (run 0 0 None))) →
+      Unwinds (step c b ∷ st) ms ms' st' true →
+      Turned ms ms' st' (finish (opens ms) (step c b ∷ st) ms (run 0 0 None))
+  turned_at true c st st' ms ms' h ih u =
       let i : ℕ = c - 1 in
-      let kd : k ≡ d = cc in
-      let sk : trail_of k w ≡ step c false ∷ st = rw kd u.2 in
       let n : opens (slice_set ms i No) ≡ opens ms = opens_keep ms i No h.2 refl in
       let back : set (slice_set ms i No) i Open ≡ set ms i Open = set-set ms i No Open in
       let long : length (slice_set ms i No) ≡ length ms = length-set ms i No in
       let x : rest (step c false ∷ st) (slice_set ms i No) ≡ finish (suc (opens ms)) st (slice_set ms i Open) (explore (opens ms) (slice_set ms i No)) = rw (n, back) in
       let here : open_mark (slice_index_or (slice_set ms i No) i Open) ≡ false = rw (get_or-set_same ms i No Open (omega (arith, h.0, h.1))) in
       let held : Held (step c false ∷ st) (slice_set ms i No) = rw back (h.0, rw long h.1, here, h.3) in
-      (ap (finish (suc (opens ms)) st (slice_set ms i Open)) (after_nil (explore (opens ms) (slice_set ms i No))) ∙ rw (sk, u.1) (sym x), rw (sk, u.1) held, rw u.1 long)
-  turned_at false c st ms ms' w d k h ih u =
+      (ap (finish (suc (opens ms)) st (slice_set ms i Open)) (after_nil (explore (opens ms) (slice_set ms i No))) ∙ rw (u.2, u.1) (sym x), rw (u.2, u.1) held, rw u.1 long)
+  turned_at false c st st' ms ms' h ih u =
       let t = ih u in
       let n : opens (slice_set ms (c - 1) Open) ≡ suc (opens ms) = opens_unset ms (c - 1) h.2 in
       (rw n at t.0, t.1, t.2 ∙ length-set ms (c - 1) Open)
 
   -- the trail taken back to a trial, which is turned
-  pub turned_rest : (st : List Step) (ms ms' : List Mark) (w : List ℕ) (d k : ℕ) → Held st ms → Unwinds st ms ms' w d (Some k) → Turned ms ms' w k (finish (opens ms) st ms (run 0 0 None))
-  turned_rest [] ms ms' w d k h u = absurd u
-  turned_rest (s ∷ st) ms ms' w d k h u =
-      turned_at s.trial s.choice st ms ms' w d k h (turned_rest st (slice_set ms (place_of s) Open) ms' w (d - 1) k h.3) u
+  pub turned_rest : (st st' : List Step) (ms ms' : List Mark) → Held st ms → Unwinds st ms ms' st' true → Turned ms ms' st' (finish (opens ms) st ms (run 0 0 None))
+  turned_rest [] st' ms ms' h u = cc
+  turned_rest (s ∷ st) st' ms ms' h u =
+      turned_at s.trial s.choice st st' ms ms' h (turned_rest st st' (slice_set ms (place_of s) Open) ms' h.3) u
 
-  none_at : (b : Bool) (c : ℕ) (st : List Step) (ms ms' : List Mark) (w : List ℕ) (d f : ℕ) →
-      (Unwinds st (slice_set ms (c - 1) Open) ms' w (d - 1) None → finish (suc f) st (slice_set ms (c - 1) Open) (run 0 0 None) ≡ run 0 0 None) →
-      Unwinds (step c b ∷ st) ms ms' w d None → finish f (step c b ∷ st) ms (run 0 0 None) ≡ run 0 0 None
-  none_at true c st ms ms' w d f ih u = absurd (let v : None ≡ Some d = u.0 in let z : ◌≡◌ {A = ℕ} 0 1 = cc in omega arith)
-  none_at false c st ms ms' w d f ih u = ih u
+  none_at : (b : Bool) (c : ℕ) (st st' : List Step) (ms ms' : List Mark) (f : ℕ) →
+      (Unwinds st (slice_set ms (c - 1) Open) ms' st' false → finish (suc f) st (slice_set ms (c - 1) Open) (run 0 0 None) ≡ run 0 0 None) →
+      Unwinds (step c b ∷ st) ms ms' st' false → finish f (step c b ∷ st) ms (run 0 0 None) ≡ run 0 0 None
+  none_at true c st st' ms ms' f ih u = absurd (let e : false ≡ true = u.0 in cc)
+  none_at false c st st' ms ms' f ih u = ih u
 
   -- the trail taken back whole
-  pub none_rest : (st : List Step) (ms ms' : List Mark) (w : List ℕ) (d f : ℕ) → Unwinds st ms ms' w d None → finish f st ms (run 0 0 None) ≡ run 0 0 None
-  none_rest [] ms ms' w d f u = refl
-  none_rest (s ∷ st) ms ms' w d f u = none_at s.trial s.choice st ms ms' w d f (none_rest st (slice_set ms (place_of s) Open) ms' w (d - 1) (suc f)) u
+  pub none_rest : (st st' : List Step) (ms ms' : List Mark) (f : ℕ) → Unwinds st ms ms' st' false → finish f st ms (run 0 0 None) ≡ run 0 0 None
+  none_rest [] st' ms ms' f u = refl
+  none_rest (s ∷ st) st' ms ms' f u = none_at s.trial s.choice st st' ms ms' f (none_rest st st' (slice_set ms (place_of s) Open) ms' (suc f)) u

@@ -1,5 +1,5 @@
 -- Equal books are searched alike.
-use Rattle.std.proofs.Common.{◌≡◌, ℕ, true, List, length, is_ok, Ok, Err, Option, Result, sym, ap, ◌∙◌, inl, inr, arith}
+use Rattle.std.proofs.Common.{◌≡◌, ℕ, true, List, length, is_ok, Ok, Err, Option, Result, sym, ap, ◌∙◌, inl, inr}
 use lib.ListN.{length-replicate}
 use Rattle.std.proofs.lemmas.Bool.{cases_lt}
 use Rattle.book.specs.declared.Mark.{Mark}
@@ -35,7 +35,7 @@ module _ (n : ℕ) (reads reads₂ : List Mark → Reading) (agree : (ms : List 
   same_searched lm lw ms' ms₂' w' w₂' (Ok v) (Ok v₂) f f₂ = let s = same_finished ms' ms₂' w' w₂' v v₂ f f₂ in (ap Ok s.0, λ _. (s.1, s.2))
   same_searched lm lw ms' ms₂' w' w₂' (Ok v) (Err e₂) f f₂ = absurd (f₂.unfit (sym lm ∙ f.fits.0, sym lw ∙ f.fits.1))
   same_searched lm lw ms' ms₂' w' w₂' (Err e) (Ok v₂) f f₂ = absurd (f.unfit (lm ∙ f₂.fits.0, lw ∙ f₂.fits.1))
-  same_searched lm lw ms' ms₂' w' w₂' (Err e) (Err e₂) f f₂ = (ap Err (f.fault ∙ sym f₂.fault), λ q. absurd (let z : ◌≡◌ {A = ℕ} 0 1 = cc in omega arith))
+  same_searched lm lw ms' ms₂' w' w₂' (Err e) (Err e₂) f f₂ = (ap Err (f.fault ∙ sym f₂.fault), λ q. cc)
 
 pub alike : (n : ℕ) (reads : List Mark → Reading) → Alike n reads
 alike n reads reads₂ agree a ms ms₂ w w₂ lm lw ms' ms₂' w' w₂' r r₂ s s₂ = same_searched n reads reads₂ agree a ms ms₂ w w₂ lm lw ms' ms₂' w' w₂' r r₂ s s₂

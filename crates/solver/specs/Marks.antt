@@ -20,7 +20,7 @@ opens_set (x ∷ ms) zero m h o e = rw (o, e)
 opens_set (x ∷ ms) (suc i) m h o e = more (open_mark x) _ _ (opens_set ms i m (omega arith) o e)
 
 pub opens_unset : (ms : List Mark) (i : ℕ) → open_mark (slice_index_or ms i Open) ≡ false → opens (slice_set ms i Open) ≡ suc (opens ms)
-opens_unset [] i o = absurd (let z : ◌≡◌ {A = ℕ} 0 1 = cc in omega arith)
+opens_unset [] i o = cc
 opens_unset (x ∷ ms) zero o = rw o
 opens_unset (x ∷ ms) (suc i) o = more (open_mark x) _ _ (opens_unset ms i o)
 
@@ -40,8 +40,8 @@ first_is (Yes ∷ ms) h = first_is ms (omega arith)
 first_is (No ∷ ms) h = first_is ms (omega arith)
 
 pub never_open : (v : Answer) → mark_of v ≢ Open
-never_open AnswerYes e = let z : ◌≡◌ {A = ℕ} 0 1 = cc in omega arith
-never_open AnswerNo e = let z : ◌≡◌ {A = ℕ} 0 1 = cc in omega arith
+never_open AnswerYes e = cc
+never_open AnswerNo e = cc
 
 pub before_first : (ms : List Mark) (k : ℕ) → k < first_open ms → slice_index_or ms k Open ≢ Open
 before_first [] k h o = omega arith

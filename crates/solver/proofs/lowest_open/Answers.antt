@@ -1,4 +1,4 @@
-use Rattle.std.proofs.Common.{◌≡◌, ℕ, ◌+◌, true, false, cond, suc, List, ◌∷◌, length, Some, None, Option, sym, ap, ◌∙◌, rules, arith, refl, add-one}
+use Rattle.std.proofs.Common.{◌≡◌, ◌+◌, true, false, List, ◌∷◌, length, Some, None, rules, arith, refl, add-one}
 use Rattle.std.specs.Option.{unwrap_or}
 use Rattle.std.proofs.lemmas.Iterator.{YieldsList-from_slice, IsFirst-from_position, index_from_first}
 use Rattle.book.specs.declared.Mark.{Mark}
