@@ -4,10 +4,9 @@
 //! name, exclude each other, and each name sits somewhere.
 #![tactic(auto)]
 
-ghost use Rattle.std.specs.Prelude.{◌≡◌, ◌<◌, ◌≤◌, length, is_ok, Decides, MatchOption, MatchResult};
-ghost use Rattle.box_book.specs.Places.{some_below, first_below};
+ghost use Rattle.std.specs.Prelude.{◌≡◌, is_ok, Decides, MatchOption, MatchResult};
 ghost use Rattle.box_book.specs.Meaning.{overlaps, clashes, Allowed};
-ghost use Rattle.box_book.specs.Readings.{is_yes, is_no, clashes_at, crowded_at, lost_at, blocked_at, alone_at, boxes_reading};
+ghost use Rattle.box_book.specs.Readings.{boxes_reading};
 ghost use Rattle.box_book.specs.Books.{boxes_of, size_of};
 ghost use Rattle.box_book.specs.Laws.{box_laws};
 ghost use Rattle.refusal.specs.declared.Layer.TheVariants.{Box as BoxLayer};
