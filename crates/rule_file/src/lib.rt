@@ -6,5 +6,5 @@ mod file;
 mod line;
 
 pub use fault::{Fault, FileCause, FileFault, LineCause, LineFault};
-pub use file::{Extent, FileReader, Tally, check_file};
+pub use file::{Extent, FileReader, MAX_BYTES, Tally, check_file};
 pub use line::Part;

@@ -20,7 +20,7 @@ use Rattle.rule_file.specs.Machine.{stops}
 use Rattle.rule_store.specs.declared.fill.Filler.{Filler}
 use Rattle.rule_store.specs.Storing.{Full}
 use Rattle.rule_store.proofs.Back.{filled_means}
-use Rattle.rule_store.specs.Filling.{Store, put_part, fills, filler_after, rules_after, counts_after, entries_after, unfilled, fresh, Filled}
+use Rattle.rule_store.specs.Filling.{Store, put_part, fills, filler_after, row_of, rules_put, counts_put, entries_put, unfilled, fresh, Filled}
 
 -- Whatever parts the file passes as, what is left of them fills the storage as they do.
 abbrev pub Going : List ℕ → Store → FileReader → Store → Type 0
@@ -46,7 +46,7 @@ going_start bs r f rs cs xs g e ps m k =
 -- a part that is not the end is put in
 module _ (bs : List ℕ) (start : Store) (r r' : FileReader) (p : Part) (f f' : Filler) (rs rs' : List RuleRow) (cs cs' : List CountRow) (xs xs' : List ℕ) where
   pub going_more :
-      MovedOn r p r' → is_end p ≡ false → f' ≡ filler_after f r.tally p → rs' ≡ rules_after f r.tally p rs → cs' ≡ counts_after f r.tally p cs → xs' ≡ entries_after r.tally p xs →
+      MovedOn r p r' → is_end p ≡ false → f' ≡ filler_after f r.tally p → rs' ≡ rules_put (row_of f r.tally p) rs → cs' ≡ counts_put (row_of f r.tally p) cs → xs' ≡ entries_put (row_of f r.tally p) xs →
       Going bs start r (store_at f r rs cs xs) → Going bs start r' (store_at f' r' rs' cs' xs')
   going_more w n ef er ec ex g ps m k = by (g ps m k)
     where
