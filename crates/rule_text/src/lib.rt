@@ -17,6 +17,7 @@ ghost use Rattle.rule_text.specs.Back.{Small, SmallItem, SmallRule, WritingsRead
 
 use book::Book;
 use output::{has_room, put, put_number};
+use refusal::At;
 use rule_book::{RuleBook, part};
 use rule_file::{Fault, FileCause, FileFault};
 use rules::{CountRow, RuleRow, Side, Span};
@@ -26,7 +27,10 @@ const MAX_BYTES: usize = 65_535;
 
 /// The refusal to write. Its place is 0, which is on line 1 of any file.
 const UNWRITTEN: FileFault = FileFault {
-    fault: Fault::File(FileCause::Writing, 0),
+    fault: Fault::File(At {
+        cause: FileCause::Writing,
+        place: 0,
+    }),
     line: 1,
 };
 
