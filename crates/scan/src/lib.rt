@@ -15,9 +15,8 @@ ghost use Rattle.scan.specs.Causes.{scan_number};
 
 mod scanner;
 
-pub use scanner::Scanner;
-
 use refusal::{At, Cause, Layer};
+pub use scanner::Scanner;
 
 /// What a byte is to the scanner.
 #[derive(Clone, Copy, PartialEq, Eq, Debug)]
