@@ -13,6 +13,8 @@ use Rattle.scan.specs.Causes.{scan_number}
 use Rattle.scan.specs.Words.{Word, line, header, stray, number, opening, closing, comma, feed, unknown, end, cut, Placed}
 use Rattle.scan.proofs.Grammar.{every_file_reads, files_read_once}
 use Rattle.rule_file.specs.declared.fault.Fault.{Fault}
+use Rattle.rule_file.specs.declared.fault.LineCause.{LineCause}
+use Rattle.rule_file.specs.declared.fault.FileCause.{FileCause}
 use Rattle.rule_file.specs.declared.fault.Fault.TheVariants.{Line as InLine, File as InFile}
 use Rattle.rule_file.specs.declared.fault.FileCause.TheVariants.{Storage, Bytes, Limit, Rules as RulesCause, Writing}
 use Rattle.rule_file.specs.declared.fault.FileFault.{FileFault}
@@ -25,7 +27,7 @@ use Rattle.rule_file.specs.declared.line.Part.TheVariants as part
 use Rattle.rule_file.specs.declared.line.State.{State}
 use Rattle.rule_file.specs.declared.line.State.TheVariants as state
 use Rattle.rule_file.specs.Causes.{CauseAt, FirstFault, Sum, nothing_yet, adding_all, sum}
-use Rattle.rule_file.specs.Faults.{told, place_of, told_file, located}
+use Rattle.rule_file.specs.Faults.{line_number, file_number, line_at, file_at, told, place_of, told_file, located}
 use Rattle.rule_file.specs.Files.{Accepted, Refused, AnsweredOnce, PassedAsForm}
 use Rattle.rule_file.specs.Form.{written_as, all_written, form, words_only, File}
 use Rattle.rule_file.specs.Machine.{Mach, start_mach, scanned, Passes, ends, goes_on, Refuses, Passed}
@@ -152,11 +154,11 @@ file_no_cause bs n rs x i c f =
 
 told_place : (f : Fault) → (told f).place ≡ place_of f
 told_place (InLine (Scan f)) = refl
-told_place (InLine (Line c i)) = refl
-told_place (InFile c i) = refl
+told_place (InLine (Line f)) = refl
+told_place (InFile f) = refl
 
 pub refused :
-    (bs : List ℕ) (f : FileFault) → f ≡ located bs f.fault → (65535 < length bs → f.fault ≡ InFile Bytes 65535) →
+    (bs : List ℕ) (f : FileFault) → f ≡ located bs f.fault → (65535 < length bs → f.fault ≡ file_at Bytes 65535) →
     (length bs ≤ 65535 → Refuses start_mach (file_words bs) f.fault) → Refused bs f
 refused bs f l b r =
     record { no_file = λ n rs x. file_no_cause bs n rs x _ _ (first x.bytes).0; line = l; bytes = b; first = told_first }
@@ -172,30 +174,36 @@ refused bs f l b r =
 -- A fault is known by its number and its place.
 abbrev of_number : ℕ → ℕ → Fault
 of_number n i =
-    cond (eqb n 9) (InFile Storage i) (
-    cond (eqb n 10) (InFile Bytes i) (
+    cond (eqb n 9) (file_at Storage i) (
+    cond (eqb n 10) (file_at Bytes i) (
     cond (eqb n 11) (InLine (Scan (record { cause = UnknownByte; place = i }))) (
     cond (eqb n 12) (InLine (Scan (record { cause = NumberTooLarge; place = i }))) (
-    cond (eqb n 13) (InLine (Line Form i)) (
-    cond (eqb n 14) (InLine (Line ChoiceCause i)) (
-    cond (eqb n 15) (InLine (Line Repeated i)) (
-    cond (eqb n 16) (InFile Limit i) (
-    cond (eqb n 17) (InFile RulesCause i) (InFile Writing i)))))))))
+    cond (eqb n 13) (InLine (line_at Form i)) (
+    cond (eqb n 14) (InLine (line_at ChoiceCause i)) (
+    cond (eqb n 15) (InLine (line_at Repeated i)) (
+    cond (eqb n 16) (file_at Limit i) (
+    cond (eqb n 17) (file_at RulesCause i) (file_at Writing i)))))))))
 
 scan_of_number : (c : ScanCause) (i : ℕ) → of_number (scan_number c) i ≡ InLine (Scan (record { cause = c; place = i }))
 scan_of_number UnknownByte i = refl
 scan_of_number NumberTooLarge i = refl
 
+line_of_number : (c : LineCause) (i : ℕ) → of_number (line_number c) i ≡ InLine (line_at c i)
+line_of_number Form i = refl
+line_of_number ChoiceCause i = refl
+line_of_number Repeated i = refl
+
+file_of_number : (c : FileCause) (i : ℕ) → of_number (file_number c) i ≡ file_at c i
+file_of_number Storage i = refl
+file_of_number Bytes i = refl
+file_of_number Limit i = refl
+file_of_number RulesCause i = refl
+file_of_number Writing i = refl
+
 known : (f : Fault) → of_number (told f).number (told f).place ≡ f
 known (InLine (Scan f)) = scan_of_number f.cause f.place
-known (InLine (Line Form i)) = refl
-known (InLine (Line ChoiceCause i)) = refl
-known (InLine (Line Repeated i)) = refl
-known (InFile Storage i) = refl
-known (InFile Bytes i) = refl
-known (InFile Limit i) = refl
-known (InFile RulesCause i) = refl
-known (InFile Writing i) = refl
+known (InLine (Line f)) = line_of_number f.cause f.place
+known (InFile f) = file_of_number f.cause f.place
 
 same_least : (i c j d : ℕ) → (i < j) ⊎ ((i ≡ j) × (c ≤ d)) → (j < i) ⊎ ((j ≡ i) × (d ≤ c)) → (i ≡ j) × (c ≡ d)
 same_least i c j d (inl x) (inl y) = absurd (omega arith)

@@ -9,7 +9,7 @@ use Rattle.scan.specs.declared.Token.TheVariants as tok
 use Rattle.scan.specs.Scans.{word_of}
 use Rattle.scan.specs.Words.{Word, line, header, stray, number, opening, closing, comma, feed, unknown, end, cut}
 use Rattle.rule_file.specs.declared.fault.Fault.{Fault}
-use Rattle.rule_file.specs.declared.fault.Fault.TheVariants.{Line as InLine, File}
+use Rattle.rule_file.specs.declared.fault.Fault.TheVariants.{Line as InLine}
 use Rattle.rule_file.specs.declared.fault.FileCause.{FileCause}
 use Rattle.rule_file.specs.declared.fault.FileCause.TheVariants.{Limit, Rules as RulesCause}
 use Rattle.rule_file.specs.declared.fault.LineCause.TheVariants.{Choice as ChoiceCause, Repeated}
@@ -20,7 +20,7 @@ use Rattle.rule_file.specs.declared.line.Part.TheVariants as part
 use Rattle.rule_file.specs.declared.line.State.{State}
 use Rattle.rule_file.specs.declared.line.State.TheVariants as state
 use Rattle.rule_file.specs.Causes.{Stands, Sum, nothing_yet, adding, adding_all, sum, Breaks, no_item, no_member, repeated, large_size, many_rules, many_counts, many_items, many_members, surplus_rule, missing_rule, Wrong, unknown_byte, large_number, no_form, broken}
-use Rattle.rule_file.specs.Faults.{told, place_of}
+use Rattle.rule_file.specs.Faults.{file_at, told, place_of}
 use Rattle.rule_file.specs.Form.{written_as, all_written, Occurs}
 use Rattle.rule_file.specs.Machine.{Mach, start_mach, scanned, Takes, by_limits, by_form, by_scan, word_fault}
 use Rattle.rule_file.specs.Reader.{Taken, plays, no_choice, line_fault, size_after, none_seen, seen_after, file_fault, counted}
@@ -208,7 +208,7 @@ exact_as i None B C g h x = λ d c. x d (h d c)
 abbrev One : Bool → ℕ → ℕ → Type 0
 One b n d = (d ≡ n) × (b ≡ true)
 
-exact_one : (i : ℕ) (b : Bool) (c : FileCause) (B : ℕ → Type 0) → (b ≡ true → B (number_of (File c i))) → ((d : ℕ) → B d → One b (number_of (File c i)) d) → Exact i (by_limits i None (cond b (Some c) None)) B
+exact_one : (i : ℕ) (b : Bool) (c : FileCause) (B : ℕ → Type 0) → (b ≡ true → B (number_of (file_at c i))) → ((d : ℕ) → B d → One b (number_of (file_at c i)) d) → Exact i (by_limits i None (cond b (Some c) None)) B
 exact_one i true c B y z = (refl, y refl, λ d x. let q = (z d x).0 in omega arith)
 exact_one i false c B y z = λ d x. let q = (z d x).1 in clash (cc)
 

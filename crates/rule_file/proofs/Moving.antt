@@ -8,7 +8,10 @@ use Rattle.scan.specs.declared.scanner.Scanner.{Scanner}
 use Rattle.scan.specs.Scans.{ahead, word_of, final, Small, Refused}
 use Rattle.scan.specs.Words.{Word, line, Placed}
 use Rattle.rule_file.specs.declared.fault.Fault.{Fault}
-use Rattle.rule_file.specs.declared.fault.Fault.TheVariants.{Line as InLine, File}
+use Rattle.rule_file.specs.declared.fault.Fault.TheVariants.{Line as InLine}
+use Rattle.rule_file.specs.declared.fault.LineCause.{LineCause}
+use Rattle.rule_file.specs.declared.fault.LineCause.TheVariants.{Form}
+use Rattle.rule_file.specs.Faults.{line_at, file_at}
 use Rattle.rule_file.specs.declared.fault.FileCause.{FileCause}
 use Rattle.rule_file.specs.declared.fault.FileCause.TheVariants.{Rules as RulesCause}
 use Rattle.rule_file.specs.declared.fault.LineFault.{LineFault}
@@ -79,16 +82,16 @@ module _ (l l' : LineReader) (s s' : Scanner) (t t' : Tally) where
   pub refused_line : (f : LineFault) → LineReads l s l' s' (Err f) → Stops (with_tally l t) (ahead s) (InLine f)
   refused_line (Scan f) r =
       at_ahead r.2 (at_word (ap (by_scan (with_tally l t) f.place) (scan_err f.cause r.0 r.3)) (λ _ e. clash (cc)))
-  refused_line (Line c i) r = at_ahead r.1.0 (at_word (token_fault (with_tally l t) i r.0 r.1.1 ∙ by (plays l.state r.0) r.2) (λ _ e. clash (cc)))
+  refused_line (Line f) r = at_ahead r.1.0 (at_word (token_fault (with_tally l t) f.place r.0 r.1.1 ∙ by (plays l.state r.0) r.2) (λ _ e. clash (cc)))
     where
-      by : (o : Taken) → by_taken l o ≡ Some c → by_form (with_tally l t) i o ≡ Some (InLine (Line c i))
-      by None e = cc
+      by : (o : Taken) → by_taken l o ≡ Some f.cause → by_form (with_tally l t) f.place o ≡ Some (InLine (Line f))
+      by None e = let q : Form ≡ f.cause = cc in ap (λ (z : LineCause). Some (InLine (line_at z f.place))) q
       by (Some x) e = rw e
 
   -- a part that is one too many
   pub refused_file :
       (i : ℕ) (p : Part) (c : FileCause) → LineReads l s l' s' (Ok (i, p)) → file_fault t p ≡ Some c → (p ≡ part.RuleLine → ⊥) →
-      Stops (with_tally l t) (ahead s) (File c i)
+      Stops (with_tally l t) (ahead s) (file_at c i)
   refused_file i p c r e other =
       at_ahead r.1.0 (at_word (token_fault (with_tally l t) i r.0 r.1.1 ∙ rw (r.2.0, r.2.1, e)) (λ w g. other (at_line p ((plays_step l.state r.0 p l'.state r.2.0).1 ∙ w) e)))
     where
@@ -140,7 +143,7 @@ module _ (l l' : LineReader) (s s' : Scanner) (t t' : Tally) where
       the_words : (i, word_of a) ∷ cond (final a) [] (ahead s') ≡ (i, line) ∷ ahead s'
       the_words = rw (is_line, final_end l.state a part.RuleLine l'.state r.2.0)
 
-      the_fault : word_fault (with_tally l t) i line ≡ Some (File RulesCause i)
+      the_fault : word_fault (with_tally l t) i line ≡ Some (file_at RulesCause i)
       the_fault = ap (word_fault (with_tally l t) i) (sym is_line) ∙ token_fault (with_tally l t) i a r.1.1 ∙ rw (r.2.0, e)
 
       same : with_tally l' t' ≡ in_rule (with_tally l t)

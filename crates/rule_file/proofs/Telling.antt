@@ -5,7 +5,6 @@ use Rattle.scan.specs.declared.ScanCause.TheVariants.{NumberTooLarge}
 use Rattle.scan.specs.declared.Token.TheVariants as tok
 use Rattle.scan.specs.Words.{Word, line, header, stray, number, opening, closing, comma, feed, unknown, end, cut, Placed}
 use Rattle.rule_file.specs.declared.fault.Fault.{Fault}
-use Rattle.rule_file.specs.declared.fault.Fault.TheVariants.{File}
 use Rattle.rule_file.specs.declared.fault.FileCause.TheVariants.{Rules as RulesCause}
 use Rattle.rule_file.specs.declared.file.Tally.{Tally}
 use Rattle.rule_file.specs.declared.line.Half.TheVariants.{Body}
@@ -14,7 +13,7 @@ use Rattle.rule_file.specs.declared.line.Part.TheVariants as part
 use Rattle.rule_file.specs.declared.line.State.{State}
 use Rattle.rule_file.specs.declared.line.State.TheVariants as state
 use Rattle.rule_file.specs.Causes.{CauseAt, Wrong, unknown_byte, large_number, no_form, broken, sum, nothing_yet, Sum}
-use Rattle.rule_file.specs.Faults.{place_of}
+use Rattle.rule_file.specs.Faults.{file_at, place_of}
 use Rattle.rule_file.specs.Form.{written_as, all_written, words_only}
 use Rattle.rule_file.specs.Machine.{Mach, by_limits, by_form, by_scan, word_fault, or_surplus, next_fault, in_rule, Stops, at_word, at_surplus, Refuses, stops, later}
 use Rattle.rule_file.specs.Reader.{plays, counted}
@@ -113,7 +112,7 @@ later_places (y ∷ ws) f lo b i c l (inr x) =
     at false = omega arith
 
 -- a line has no fault but that of a rule too many, and this only between rules
-line_fault_is : (m : Mach) (i : ℕ) (f : Fault) (s : State) → m.state ≡ s → AtLine s → word_fault m i line ≡ Some f → (f ≡ File RulesCause i) × (m.state ≡ state.Between)
+line_fault_is : (m : Mach) (i : ℕ) (f : Fault) (s : State) → m.state ≡ s → AtLine s → word_fault m i line ≡ Some f → (f ≡ file_at RulesCause i) × (m.state ≡ state.Between)
 line_fault_is m i f s e (inl q) x =
     let y : by_form m i (plays state.Start tok.Line) ≡ Some f = subst (λ (z : State). by_form m i (plays z tok.Line) ≡ Some f) (e ∙ q) x in
     clash (cc)
@@ -121,8 +120,8 @@ line_fault_is m i f s e (inr q) x =
     let y : by_form m i (plays state.Between tok.Line) ≡ Some f = subst (λ (z : State). by_form m i (plays z tok.Line) ≡ Some f) (e ∙ q) x in
     (at (leb m.tally.declared m.tally.rules) y, e ∙ q)
   where
-    at : (b : Bool) → by_limits i None (cond b (Some RulesCause) None) ≡ Some f → f ≡ File RulesCause i
-    at true y = let g : File RulesCause i ≡ f = cc in sym g
+    at : (b : Bool) → by_limits i None (cond b (Some RulesCause) None) ≡ Some f → f ≡ file_at RulesCause i
+    at true y = let g : file_at RulesCause i ≡ f = cc in sym g
     at false y = clash (cc)
 
 -- within a rule's line that was not counted, words have the faults that they have where it was
@@ -206,7 +205,7 @@ module _ (b : List Word) (i : ℕ) (own : Wrong b line 17) (least : (d : ℕ) �
           beyond q d (inr y) = let g = further q d y in omega (arith, l.0)
       by (Some g) x = at (eqb (place_of g) i) refl
         where
-          at : (t : Bool) → eqb (place_of g) i ≡ t → FirstIn b ((i, line) ∷ (j, v) ∷ ws) (place_of (cond t g (File RulesCause i))) (number_of (cond t g (File RulesCause i)))
+          at : (t : Bool) → eqb (place_of g) i ≡ t → FirstIn b ((i, line) ∷ (j, v) ∷ ws) (place_of (cond t g (file_at RulesCause i))) (number_of (cond t g (file_at RulesCause i)))
           at true e = (inr (inl (x.0, x.1)), first)
             where
               first : (q d : ℕ) → FaultIn b ((i, line) ∷ (j, v) ∷ ws) q d → (place_of g < q) ⊎ ((place_of g ≡ q) × (number_of g ≤ d))
@@ -233,8 +232,8 @@ stop_first ps m ws f t lo h l s (at_word {i = i} {w = w} {ws = vs} e n) =
     not_line = elim (line_or_not w) [ inl q ↦ absurd (n q (line_fault_is m i f m.state refl (s (l.1 q)) (subst (λ (z : Word). word_fault m i z ≡ Some f) q e)).0) | inr q ↦ q ]
 stop_first ps m ws f t lo h l s (at_surplus {i = i} {ws = vs} e g) =
     let b : List Word = all_written ps in
-    let x : Exact i (Some (File RulesCause i)) (Wrong b line) = subst (λ (o : Option Fault). Exact i o (Wrong b line)) e (word_exact ps m h i line) in
-    let k = line_fault_is m i (File RulesCause i) m.state refl (s (l.1 refl)) e in
+    let x : Exact i (Some (file_at RulesCause i)) (Wrong b line) = subst (λ (o : Option Fault). Exact i o (Wrong b line)) e (word_exact ps m h i line) in
+    let k = line_fault_is m i (file_at RulesCause i) m.state refl (s (l.1 refl)) e in
     subst (λ (z : Fault). FirstIn b ((i, line) ∷ vs) (place_of z) (number_of z)) (sym g) (by vs l.2 x.1 x.2 (held_rule ps m h k.1))
   where
     by :

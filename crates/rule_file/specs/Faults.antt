@@ -1,5 +1,6 @@
 -- The causes of a rule file's refusals by number, and a fault as it is told.
 use Rattle.std.specs.Prelude.{ℕ, ◌+◌, List, count_by, take, ◌==◌}
+use Rattle.refusal.specs.Causes.{told as told_of}
 use Rattle.refusal.specs.declared.Layer.TheVariants.{File as FileLayer, Scan as ScanLayer, Line as LineLayer}
 use Rattle.refusal.specs.declared.Refusal.{Refusal}
 use Rattle.scan.specs.Causes.{scan_number}
@@ -25,21 +26,28 @@ file_number Limit = 16
 file_number Rules = 17
 file_number Writing = 19
 
+-- a fault of these layers, by its cause and place
+abbrev pub line_at : LineCause → ℕ → LineFault
+line_at c i = Line (record { cause = c; place = i })
+
+abbrev pub file_at : FileCause → ℕ → Fault
+file_at c i = File (record { cause = c; place = i })
+
 abbrev pub place_in_line : LineFault → ℕ
 place_in_line (Scan f) = f.place
-place_in_line (Line c p) = p
+place_in_line (Line f) = f.place
 
 abbrev pub place_of : Fault → ℕ
 place_of (InLine f) = place_in_line f
-place_of (File c p) = p
+place_of (File f) = f.place
 
 abbrev pub told_line : LineFault → Refusal
-told_line (Scan f) = record { number = scan_number f.cause; place = f.place; layer = ScanLayer }
-told_line (Line c p) = record { number = line_number c; place = p; layer = LineLayer }
+told_line (Scan f) = told_of scan_number ScanLayer f
+told_line (Line f) = told_of line_number LineLayer f
 
 abbrev pub told : Fault → Refusal
 told (InLine f) = told_line f
-told (File c p) = record { number = file_number c; place = p; layer = FileLayer }
+told (File f) = told_of file_number FileLayer f
 
 abbrev pub told_file : FileFault → Refusal
 told_file f = told f.fault

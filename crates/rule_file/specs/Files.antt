@@ -3,7 +3,6 @@ use Rattle.std.specs.Prelude.{◌≡◌, ℕ, ◌<◌, ◌≤◌, List, length, 
 use Rattle.rules.specs.Rules.{Rule}
 use Rattle.scan.specs.Bytes.{file_words}
 use Rattle.scan.specs.Scans.{ahead}
-use Rattle.rule_file.specs.declared.fault.Fault.TheVariants.{File as InFile}
 use Rattle.rule_file.specs.declared.fault.FileCause.TheVariants.{Bytes}
 use Rattle.rule_file.specs.declared.fault.FileFault.{FileFault}
 use Rattle.rule_file.specs.declared.file.Extent.{Extent}
@@ -11,7 +10,7 @@ use Rattle.rule_file.specs.declared.file.FileReader.{FileReader}
 use Rattle.rule_file.specs.declared.line.Part.{Part}
 use Rattle.rule_file.specs.declared.line.State.TheVariants.{Start}
 use Rattle.rule_file.specs.Causes.{FirstFault}
-use Rattle.rule_file.specs.Faults.{located, told_file}
+use Rattle.rule_file.specs.Faults.{file_at, located, told_file}
 use Rattle.rule_file.specs.Form.{form, words_only, SpellsFile, File}
 use Rattle.rule_file.specs.Machine.{Mach, start_mach, Passes}
 use Rattle.rule_file.specs.Reader.{none_seen}
@@ -35,7 +34,7 @@ pub record Accepted (bs : List ℕ) (x : Extent) : Type 0 where
 pub record Refused (bs : List ℕ) (f : FileFault) : Type 0 where
   pub no_file : (n : ℕ) (rs : List Rule) → File bs n rs → ⊥
   pub line : f ≡ located bs f.fault
-  pub bytes : 65535 < length bs → f.fault ≡ InFile Bytes 65535
+  pub bytes : 65535 < length bs → f.fault ≡ file_at Bytes 65535
   pub first : length bs ≤ 65535 → FirstFault bs (told_file f).place (told_file f).number
 
 abbrev pub Checked : List ℕ → Result Extent FileFault → Type 0

@@ -8,14 +8,14 @@ use Rattle.scan.specs.Bytes.{file_words}
 use Rattle.scan.specs.Scans.{ahead}
 use Rattle.scan.specs.Words.{Word, line, header, stray, number, opening, closing, comma, feed, unknown, end, cut, Placed}
 use Rattle.rule_file.specs.declared.fault.Fault.{Fault}
-use Rattle.rule_file.specs.declared.fault.Fault.TheVariants.{Line as InLine, File}
+use Rattle.rule_file.specs.declared.fault.Fault.TheVariants.{Line as InLine}
 use Rattle.rule_file.specs.declared.fault.FileFault.{FileFault}
 use Rattle.rule_file.specs.declared.file.Extent.{Extent}
 use Rattle.rule_file.specs.declared.fault.FileCause.{FileCause}
 use Rattle.rule_file.specs.declared.fault.FileCause.TheVariants.{Rules as RulesCause}
 use Rattle.rule_file.specs.declared.fault.LineCause.{LineCause}
 use Rattle.rule_file.specs.declared.fault.LineCause.TheVariants.{Form}
-use Rattle.rule_file.specs.declared.fault.LineFault.TheVariants.{Scan, Line}
+use Rattle.rule_file.specs.declared.fault.LineFault.TheVariants.{Scan}
 use Rattle.rule_file.specs.declared.file.FileReader.{FileReader}
 use Rattle.rule_file.specs.declared.file.Tally.{Tally}
 use Rattle.rule_file.specs.declared.line.Half.TheVariants.{Body}
@@ -23,7 +23,7 @@ use Rattle.rule_file.specs.declared.line.Part.{Part}
 use Rattle.rule_file.specs.declared.line.Part.TheVariants as part
 use Rattle.rule_file.specs.declared.line.State.{State}
 use Rattle.rule_file.specs.declared.line.State.TheVariants as state
-use Rattle.rule_file.specs.Faults.{place_of}
+use Rattle.rule_file.specs.Faults.{line_at, file_at, place_of}
 use Rattle.rule_file.specs.Form.{words_only}
 use Rattle.rule_file.specs.Reader.{Taken, plays, line_fault, size_after, none_seen, seen_after, is_end, file_fault, counted}
 
@@ -74,12 +74,12 @@ pub data Passes : Mach → List Word → List Part → Mach → Type 0 where
 
 -- the fault of a word by itself, at its place, if it is not taken
 abbrev pub by_limits : ℕ → Option LineCause → Option FileCause → Option Fault
-by_limits i (Some c) o = Some (InLine (Line c i))
-by_limits i None (Some c) = Some (File c i)
+by_limits i (Some c) o = Some (InLine (line_at c i))
+by_limits i None (Some c) = Some (file_at c i)
 by_limits i None None = None
 
 abbrev pub by_form : Mach → ℕ → Taken → Option Fault
-by_form m i None = Some (InLine (Line Form i))
+by_form m i None = Some (InLine (line_at Form i))
 by_form m i (Some x) = by_limits i (line_fault m.size m.seen x.0) (file_fault m.tally x.0)
 
 abbrev pub by_scan : Mach → ℕ → Result Token ScanCause → Option Fault
@@ -95,8 +95,8 @@ next_fault m [] = None
 next_fault m (x ∷ ws) = word_fault m x.0 x.1
 
 abbrev pub or_surplus : ℕ → Option Fault → Fault
-or_surplus i None = File RulesCause i
-or_surplus i (Some f) = cond (place_of f == i) f (File RulesCause i)
+or_surplus i None = file_at RulesCause i
+or_surplus i (Some f) = cond (place_of f == i) f (file_at RulesCause i)
 
 abbrev pub surplus_fault : Mach → ℕ → List Placed → Fault
 surplus_fault m i ws = or_surplus i (next_fault m ws)
@@ -108,10 +108,10 @@ in_rule m = record { state = state.Items Body; size = m.size; seen = m.seen; tal
 -- The first word is not taken, and this is the fault that is told.
 pub data Stops (m : Mach) : List Placed → Fault → Type 0 where
   at_word :
-      {i : ℕ} {w : Word} {ws : List Placed} {f : Fault} → word_fault m i w ≡ Some f → (w ≡ line → f ≢ File RulesCause i) →
+      {i : ℕ} {w : Word} {ws : List Placed} {f : Fault} → word_fault m i w ≡ Some f → (w ≡ line → f ≢ file_at RulesCause i) →
       Stops m ((i, w) ∷ ws) f
   at_surplus :
-      {i : ℕ} {ws : List Placed} {f : Fault} → word_fault m i line ≡ Some (File RulesCause i) → f ≡ surplus_fault (in_rule m) i ws →
+      {i : ℕ} {ws : List Placed} {f : Fault} → word_fault m i line ≡ Some (file_at RulesCause i) → f ≡ surplus_fault (in_rule m) i ws →
       Stops m ((i, line) ∷ ws) f
 
 -- Some words are taken, and the next one is not.

@@ -162,7 +162,7 @@ is_end part.End = true
 abbrev pub LineReads : LineReader → Scanner → LineReader → Scanner → Result (ℕ × Part) LineFault → Type 0
 LineReads r s r' s' (Ok x) = (t : Token) × TokenFirst (ahead s) x.0 t s' × Stepped r t r' (Ok x.1)
 LineReads r s r' s' (Err (Scan f)) = (w : Word) × (ws : List Placed) × (ahead s ≡ (f.place, w) ∷ ws) × Refused f.cause w
-LineReads r s r' s' (Err (Line c i)) = (t : Token) × TokenFirst (ahead s) i t s' × (by_taken r (plays r.state t) ≡ Some c)
+LineReads r s r' s' (Err (Line f)) = (t : Token) × TokenFirst (ahead s) f.place t s' × (by_taken r (plays r.state t) ≡ Some f.cause)
 
 -- a part other than the end brings the scanner nearer to it
 abbrev pub LineNearer : Scanner → Scanner → Result (ℕ × Part) LineFault → Type 0

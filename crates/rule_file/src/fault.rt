@@ -1,11 +1,12 @@
 //! The faults of a rule file, layer inside layer: a scan fault is carried whole in a line fault, that in a fault of the
 //! file, which the line is added to.
 ghost use Rattle.std.specs.Prelude.{◌≡◌};
+ghost use Rattle.refusal.specs.declared.Layer.TheVariants.{File as FileLayer, Line as LineLayer};
 ghost use Rattle.rule_file.specs.declared.fault.LineFault.TheVariants.{Scan};
 ghost use Rattle.rule_file.specs.declared.fault.Fault.TheVariants.{Line as InLine};
 ghost use Rattle.rule_file.specs.Faults.{line_number, file_number, place_in_line, place_of, told_line, told_file};
 
-use refusal::{Layer, Refusal};
+use refusal::{At, Cause, Layer, Refusal};
 use scan::ScanFault;
 
 /// Why the line reader refuses a token.
@@ -34,18 +35,52 @@ pub enum FileCause {
     Writing,
 }
 
+impl Cause for LineCause {
+    ghost numbers = { line_number };
+
+    ghost LAYER = { LineLayer };
+
+    const LAYER: Layer = Layer::Line;
+
+    fn number(self) -> u8 {
+        match self {
+            LineCause::Form => 13,
+            LineCause::Choice => 14,
+            LineCause::Repeated => 15,
+        }
+    }
+}
+
+impl Cause for FileCause {
+    ghost numbers = { file_number };
+
+    ghost LAYER = { FileLayer };
+
+    const LAYER: Layer = Layer::File;
+
+    fn number(self) -> u8 {
+        match self {
+            FileCause::Storage => 9,
+            FileCause::Bytes => 10,
+            FileCause::Limit => 16,
+            FileCause::Rules => 17,
+            FileCause::Writing => 19,
+        }
+    }
+}
+
 /// A fault of layer line, or a scan fault inside it.
 #[derive(Clone, Copy)]
 pub enum LineFault {
     Scan(ScanFault),
-    Line(LineCause, usize),
+    Line(At<LineCause>),
 }
 
 /// A fault of layer file, or a line fault inside it.
 #[derive(Clone, Copy)]
 pub enum Fault {
     Line(LineFault),
-    File(FileCause, usize),
+    File(At<FileCause>),
 }
 
 /// A fault of a file with its line: the line feeds before its place, plus 1.
@@ -54,6 +89,32 @@ pub struct FileFault {
     pub fault: Fault,
     pub line: usize,
 }
+
+impl LineFault {
+    /// Where the fault stands, in bytes from the start of the file.
+    pub fn place(self) -> usize
+        ensures { result ≡ place_in_line self }
+    {
+        match self {
+            LineFault::Scan(fault) => fault.place,
+            LineFault::Line(fault) => fault.place,
+        }
+    }
+}
+
+impl Fault {
+    /// Where the fault stands, in bytes from the start of the file.
+    pub fn place(self) -> usize
+        ensures { result ≡ place_of self }
+    {
+        match self {
+            Fault::Line(fault) => fault.place(),
+            Fault::File(fault) => fault.place,
+        }
+    }
+}
+
+// No derive writes a `From` that says what it gives, so these are written out.
 
 impl From<ScanFault> for LineFault {
     ghost from_gives = { λ s f. f ≡ Scan s };
@@ -71,84 +132,13 @@ impl From<LineFault> for Fault {
     }
 }
 
-impl From<(Fault, usize)> for FileFault {
-    ghost from_gives = { λ p f. f ≡ record { fault = p.0; line = p.1 } };
-
-    fn from(pair: (Fault, usize)) -> FileFault {
-        FileFault {
-            fault: pair.0,
-            line: pair.1,
-        }
-    }
-}
-
-impl LineCause {
-    /// The number by which the table of refusals knows the cause.
-    pub fn number(self) -> u8
-        ensures { result ≡ line_number self }
-    {
-        match self {
-            LineCause::Form => 13,
-            LineCause::Choice => 14,
-            LineCause::Repeated => 15,
-        }
-    }
-}
-
-impl FileCause {
-    /// The number by which the table of refusals knows the cause.
-    pub fn number(self) -> u8
-        ensures { result ≡ file_number self }
-    {
-        match self {
-            FileCause::Storage => 9,
-            FileCause::Bytes => 10,
-            FileCause::Limit => 16,
-            FileCause::Rules => 17,
-            FileCause::Writing => 19,
-        }
-    }
-}
-
-impl LineFault {
-    /// Where the fault stands, in bytes from the start of the file.
-    pub fn place(self) -> usize
-        ensures { result ≡ place_in_line self }
-    {
-        match self {
-            LineFault::Scan(fault) => fault.place,
-            LineFault::Line(_, place) => place,
-        }
-    }
-}
-
-impl Fault {
-    /// Where the fault stands, in bytes from the start of the file.
-    pub fn place(self) -> usize
-        ensures { result ≡ place_of self }
-    {
-        match self {
-            Fault::Line(fault) => fault.place(),
-            Fault::File(_, place) => place,
-        }
-    }
-}
-
 impl From<LineFault> for Refusal {
     ghost from_gives = { λ f r. r ≡ told_line f };
 
     fn from(fault: LineFault) -> Refusal {
         match fault {
-            LineFault::Scan(fault) => Refusal {
-                number: fault.cause.number(),
-                place: fault.place,
-                layer: Layer::Scan,
-            },
-            LineFault::Line(cause, place) => Refusal {
-                number: cause.number(),
-                place,
-                layer: Layer::Line,
-            },
+            LineFault::Scan(fault) => Refusal::from(fault),
+            LineFault::Line(fault) => Refusal::from(fault),
         }
     }
 }
@@ -159,11 +149,7 @@ impl From<FileFault> for Refusal {
     fn from(fault: FileFault) -> Refusal {
         match fault.fault {
             Fault::Line(fault) => Refusal::from(fault),
-            Fault::File(cause, place) => Refusal {
-                number: cause.number(),
-                place,
-                layer: Layer::File,
-            },
+            Fault::File(fault) => Refusal::from(fault),
         }
     }
 }

@@ -9,12 +9,10 @@ ghost use Rattle.rule_file.specs.Reader.{OneMore, Counted, Nearer, Tallied};
 
 use super::fault::{Fault, FileCause, FileFault};
 use super::line::{LineReader, Part};
-use book::SheetSize;
+use book::{MAX_CHOICES, SheetSize};
+use refusal::At;
 use rules::{MAX_COUNTS, MAX_ENTRIES, MAX_RULES};
 use scan::Scanner;
-
-/// The most choices that a sheet may have.
-const MAX_CHOICES: u16 = 4096;
 
 /// The most bytes that a file may have.
 pub const MAX_BYTES: usize = 65535;
@@ -42,7 +40,7 @@ impl Tally {
         ensures { Counted self.old part self.new result }
     {
         match part {
-            Part::Size(n) if n > MAX_CHOICES => Err(FileCause::Limit),
+            Part::Size(n) if n as usize > MAX_CHOICES => Err(FileCause::Limit),
             Part::Rules(n) if n as usize > MAX_RULES => Err(FileCause::Limit),
             Part::Rules(n) => {
                 self.declared = n;
@@ -116,7 +114,7 @@ impl<'a> FileReader<'a> {
             return Err(match part {
                 // A rule's line is refused only where it is one too many.
                 Part::RuleLine => self.surplus(place),
-                _ => Fault::File(cause, place),
+                _ => Fault::File(At { cause, place }),
             });
         }
         Ok(part)
@@ -129,7 +127,10 @@ impl<'a> FileReader<'a> {
     {
         match self.try_token() {
             Err(fault) if fault.place() == place => fault,
-            _ => Fault::File(FileCause::Rules, place),
+            _ => Fault::File(At {
+                cause: FileCause::Rules,
+                place,
+            }),
         }
     }
 
@@ -138,9 +139,8 @@ impl<'a> FileReader<'a> {
         ensures { result_err result ≡ next_fault (mach self.old) (ahead self.old.scanner) }
     {
         let (place, part) = self.line.next_part(&mut self.scanner)?;
-        self.tally
-            .count(part)
-            .map_err(|cause| Fault::File(cause, place))
+        let counted = self.tally.count(part);
+        counted.map_err(|cause| Fault::File(At { cause, place }))
     }
 }
 
@@ -183,7 +183,11 @@ pub fn check_file(bytes: &[u8]) -> Result<Extent, FileFault>
     ensures parts { PassedAsForm }
 {
     if bytes.len() > MAX_BYTES {
-        return Err(refused(Fault::File(FileCause::Bytes, MAX_BYTES), bytes));
+        let fault = At {
+            cause: FileCause::Bytes,
+            place: MAX_BYTES,
+        };
+        return Err(refused(Fault::File(fault), bytes));
     }
     read_through(bytes).map_err(|fault| refused(fault, bytes))
 }

@@ -6,7 +6,8 @@ ghost use Rattle.rule_file.specs.declared.line.Part.TheVariants.{Member};
 ghost use Rattle.rule_file.specs.declared.line.State.TheVariants.{Start};
 
 use super::fault::{LineCause, LineFault};
-use book::SheetSize;
+use book::{MAX_CHOICES, SheetSize};
+use refusal::At;
 use scan::{Scanner, Token};
 
 /// Which side of a rule is read.
@@ -65,13 +66,17 @@ pub enum Part {
     End,
 }
 
+/// One flag for each choice that a sheet can have; the first is that of no choice.
+const NONE_SEEN: [bool; MAX_CHOICES + 1] = [false; MAX_CHOICES + 1];
+
 /// A reader of lines, by what it has before it.
 #[derive(Drop)]
 pub struct LineReader {
     state: State,
+    /// That of the header. Before it no choice will do, as on a sheet with none.
     size: SheetSize,
     /// Which choices the count that is read has had.
-    seen: [bool; 4097],
+    seen: [bool; MAX_CHOICES + 1],
 }
 
 impl LineReader {
@@ -81,7 +86,7 @@ impl LineReader {
         LineReader {
             state: State::Start,
             size: SheetSize::zero(),
-            seen: [false; 4097],
+            seen: NONE_SEEN,
         }
     }
 
@@ -98,19 +103,17 @@ impl LineReader {
         ensures nearer { LineNearer scanner.old scanner.new result }
     {
         let (place, token) = scanner.next_token()?;
-        match self.step(token) {
-            Ok(part) => Ok((place, part)),
-            Err(cause) => Err(LineFault::Line(cause, place)),
-        }
+        let part = self
+            .step(token)
+            .map_err(|cause| LineFault::Line(At { cause, place }))?;
+        Ok((place, part))
     }
 
     /// Takes one token more.
     pub(super) fn step(&mut self, token: Token) -> Result<Part, LineCause>
         ensures { Stepped self.old token self.new result }
     {
-        let Some((part, next)) = self.part(token) else {
-            return Err(LineCause::Form);
-        };
+        let (part, next) = self.part(token).ok_or(LineCause::Form)?;
         self.admit(part)?;
         self.state = next;
         Ok(part)
@@ -145,8 +148,9 @@ impl LineReader {
         ensures { Admitted self.old part self.new result }
     {
         match part {
-            Part::Size(n) => self.note_size(n),
-            Part::CountOpen => self.forget(),
+            // A size that no sheet has is for the file layer to refuse.
+            Part::Size(n) => self.size = SheetSize::new(n).unwrap_or(self.size),
+            Part::CountOpen => self.seen = NONE_SEEN,
             Part::Choice(n) => self.check_choice(n)?,
             Part::Member(n) => self.admit_member(n)?,
             _ => {}
@@ -172,24 +176,5 @@ impl LineReader {
         }
         self.seen[n as usize] = true;
         Ok(())
-    }
-
-    // A new count has had no choice.
-    fn forget(&mut self)
-        ensures seen_after { self.new.seen ≡ none_seen }
-        ensures state_unchanged { (self.new.state ≡ self.old.state) × (self.new.size ≡ self.old.size) }
-    {
-        let none = [false; 4097];
-        self.seen = none;
-    }
-
-    // A size that no sheet has is for the file layer to refuse.
-    fn note_size(&mut self, n: u16)
-        ensures value_after { self.new.size.value ≡ (if nat_lt 4096 n then self.old.size.value else n) }
-        ensures state_unchanged { (self.new.state ≡ self.old.state) × (self.new.seen ≡ self.old.seen) }
-    {
-        if let Some(size) = SheetSize::new(n) {
-            self.size = size;
-        }
     }
 }

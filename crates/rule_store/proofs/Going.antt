@@ -10,8 +10,6 @@ use Rattle.scan.specs.Words.{Placed}
 use Rattle.rule_file.specs.declared.fault.Fault.{Fault}
 use Rattle.rule_file.specs.declared.file.FileReader.{FileReader}
 use Rattle.rule_file.specs.declared.line.Part.{Part}
-use Rattle.rule_file.specs.declared.line.Part.TheVariants as part
-use Rattle.rule_file.specs.Files.{Started}
 use Rattle.rule_file.specs.Form.{words_only, form, Within}
 use Rattle.rule_file.specs.Machine.{Mach, mach, start_mach, Passes, Stops, MovedOn}
 use Rattle.rule_file.specs.Reader.{is_end}
@@ -20,7 +18,7 @@ use Rattle.rule_file.specs.Machine.{stops}
 use Rattle.rule_store.specs.declared.fill.Filler.{Filler}
 use Rattle.rule_store.specs.Storing.{Full}
 use Rattle.rule_store.proofs.Back.{filled_means}
-use Rattle.rule_store.specs.Filling.{Store, put_part, fills, filler_after, rules_after, counts_after, entries_after, unfilled, fresh, Filled}
+use Rattle.rule_store.specs.Filling.{Store, put_part, fills, filler_after, row_of, rules_put, counts_put, entries_put, unfilled, fresh, Filled}
 
 -- Whatever parts the file passes as, what is left of them fills the storage as they do.
 abbrev pub Going : List ℕ → Store → FileReader → Store → Type 0
@@ -32,21 +30,10 @@ Going bs start r s =
 abbrev pub store_at : Filler → FileReader → List RuleRow → List CountRow → List ℕ → Store
 store_at f r rs cs xs = record { filler = f; tally = r.tally; rules = rs; counts = cs; entries = xs }
 
-started_mach : (r : FileReader) (bs : List ℕ) → Started r bs → mach r ≡ start_mach
-started_mach r bs g = λ i. record { state = g.state i; size = g.size i; seen = g.seen i; tally = g.tally i }
-
-pub going_start : (bs : List ℕ) (r : FileReader) (f : Filler) (rs : List RuleRow) (cs : List CountRow) (xs : List ℕ) → Started r bs → f ≡ fresh → Going bs (unfilled fresh rs cs xs) r (store_at f r rs cs xs)
-going_start bs r f rs cs xs g e ps m k =
-    let words : file_words bs ≡ ahead r.scanner = sym g.words in
-    let pass : Passes (mach r) (words_only (ahead r.scanner)) ps m =
-    subst (λ (n : Mach). Passes n (words_only (ahead r.scanner)) ps m) (sym (started_mach r bs g)) (subst (λ (ws : List Placed). Passes start_mach (words_only ws) ps m) words k) in
-    let same : store_at f r rs cs xs ≡ unfilled fresh rs cs xs = λ i. record { filler = e i; tally = g.tally i; rules = rs; counts = cs; entries = xs } in
-    (ps, pass, ap (λ (s : Store). fills s ps) same)
-
 -- a part that is not the end is put in
 module _ (bs : List ℕ) (start : Store) (r r' : FileReader) (p : Part) (f f' : Filler) (rs rs' : List RuleRow) (cs cs' : List CountRow) (xs xs' : List ℕ) where
   pub going_more :
-      MovedOn r p r' → is_end p ≡ false → f' ≡ filler_after f r.tally p → rs' ≡ rules_after f r.tally p rs → cs' ≡ counts_after f r.tally p cs → xs' ≡ entries_after r.tally p xs →
+      MovedOn r p r' → is_end p ≡ false → f' ≡ filler_after f r.tally p → rs' ≡ rules_put (row_of f r.tally p) rs → cs' ≡ counts_put (row_of f r.tally p) cs → xs' ≡ entries_put (row_of f r.tally p) xs →
       Going bs start r (store_at f r rs cs xs) → Going bs start r' (store_at f' r' rs' cs' xs')
   going_more w n ef er ec ex g ps m k = by (g ps m k)
     where
@@ -69,26 +56,6 @@ module _ (bs : List ℕ) (start : Store) (r r' : FileReader) (p : Part) (f f' : 
           (qs' : List Part) × Passes (mach r') (words_only (ahead r'.scanner)) qs' m × (fills (store_at f' r' rs' cs' xs') qs' ≡ fills start ps)
       by x =
           stepped x.0 x.2 (passes_step (mach r') p (subst (λ (ws : List Placed). Passes (mach r) (words_only ws) x.0 m) w.was x.1) w.takes)
-
--- at the end nothing is left
-pub going_end : (bs : List ℕ) (r r' : FileReader) (f : Filler) (rs : List RuleRow) (cs : List CountRow) (xs : List ℕ) (rs0 : List RuleRow) (cs0 : List CountRow) (xs0 : List ℕ) →
-    MovedOn r part.End r' → Going bs (unfilled fresh rs0 cs0 xs0) r (store_at f r rs cs xs) → Filled bs rs0 cs0 xs0 rs cs xs
-going_end bs r r' f rs cs xs rs0 cs0 xs0 w g ps m k = by (g ps m k)
-  where
-    start : Store
-    start = unfilled fresh rs0 cs0 xs0
-
-    ended : (qs : List Part) → fills (store_at f r rs cs xs) qs ≡ fills start ps → Stepping part.End (mach r') (words_only w.rest) qs m →
-        (rs ≡ (fills start ps).rules) × (cs ≡ (fills start ps).counts) × (xs ≡ (fills start ps).entries)
-    ended qs e (inl u) =
-        let last : put_part (store_at f r rs cs xs) part.End ≡ fills start ps = ap (fills (store_at f r rs cs xs)) (sym u.2) ∙ e in
-        (ap (λ (s : Store). s.rules) last, ap (λ (s : Store). s.counts) last, ap (λ (s : Store). s.entries) last)
-    ended qs e (inr u) = absurd (let g = u.0 in let z : ◌≡◌ {A = ℕ} 0 1 = cc in omega arith)
-
-    by : (qs : List Part) × Passes (mach r) (words_only (ahead r.scanner)) qs m × (fills (store_at f r rs cs xs) qs ≡ fills start ps) →
-        (rs ≡ (fills start ps).rules) × (cs ≡ (fills start ps).counts) × (xs ≡ (fills start ps).entries)
-    by x =
-        ended x.0 x.2 (passes_step (mach r') part.End (subst (λ (ws : List Placed). Passes (mach r) (words_only ws) x.0 m) w.was x.1) w.takes)
 
 -- a file whose words pass is not refused
 pub going_stops : (bs : List ℕ) (start : Store) (r : FileReader) (s : Store) (fault : Fault) (rs0 rs : List RuleRow) (cs0 cs : List CountRow) (xs0 xs : List ℕ) →

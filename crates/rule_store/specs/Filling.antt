@@ -1,5 +1,5 @@
 -- How the parts of a file fill the storage.
-use Rattle.std.specs.Prelude.{◌≡◌, ℕ, List, [], ◌∷◌, slice_set}
+use Rattle.std.specs.Prelude.{◌≡◌, ℕ, List, [], ◌∷◌, Some, None, Option, slice_set}
 use Rattle.rules.specs.declared.CountRow.{CountRow}
 use Rattle.rules.specs.declared.RuleRow.{RuleRow}
 use Rattle.rules.specs.declared.Side.{Side}
@@ -11,6 +11,8 @@ use Rattle.rule_file.specs.Machine.{Mach, Passes, start_mach}
 use Rattle.rule_file.specs.Reader.{counted}
 use Rattle.scan.specs.Bytes.{file_words}
 use Rattle.rule_store.specs.declared.fill.Filler.{Filler}
+use Rattle.rule_store.specs.declared.fill.Row.{Row}
+use Rattle.rule_store.specs.declared.fill.Row.TheVariants.{Rule, Count, Entry}
 
 -- a side that starts with the next entry and the next count
 abbrev pub side_from : Tally → Side
@@ -45,57 +47,42 @@ filler_after f t part.Comma = record { rule = record { body = side_to f.rule.bod
 filler_after f t part.RuleEnd = record { rule = rule_to f t; rule_at = f.rule_at; count = f.count; count_at = f.count_at }
 filler_after f t part.End = f
 
--- the rows and entries after one part more
-abbrev pub rules_after : Filler → Tally → Part → List RuleRow → List RuleRow
-rules_after f t part.HeaderLine rs = rs
-rules_after f t part.Header rs = rs
-rules_after f t (part.Size n) rs = rs
-rules_after f t (part.Rules m) rs = rs
-rules_after f t part.HeaderEnd rs = rs
-rules_after f t part.RuleLine rs = rs
-rules_after f t (part.Choice c) rs = rs
-rules_after f t part.CountOpen rs = rs
-rules_after f t (part.Lower k) rs = rs
-rules_after f t (part.Upper m) rs = rs
-rules_after f t (part.Member c) rs = rs
-rules_after f t part.CountClose rs = rs
-rules_after f t part.Comma rs = rs
-rules_after f t part.RuleEnd rs = slice_set rs f.rule_at (rule_to f t)
-rules_after f t part.End rs = rs
+-- the row or entry that is whole with a part, where the tally is that of the parts before it
+abbrev pub row_of : Filler → Tally → Part → Option Row
+row_of f t part.HeaderLine = None
+row_of f t part.Header = None
+row_of f t (part.Size n) = None
+row_of f t (part.Rules m) = None
+row_of f t part.HeaderEnd = None
+row_of f t part.RuleLine = None
+row_of f t (part.Choice c) = Some (Entry t.entries c)
+row_of f t part.CountOpen = None
+row_of f t (part.Lower k) = None
+row_of f t (part.Upper m) = None
+row_of f t (part.Member c) = Some (Entry t.entries c)
+row_of f t part.CountClose = Some (Count f.count_at (count_to f t))
+row_of f t part.Comma = None
+row_of f t part.RuleEnd = Some (Rule f.rule_at (rule_to f t))
+row_of f t part.End = None
 
-abbrev pub counts_after : Filler → Tally → Part → List CountRow → List CountRow
-counts_after f t part.HeaderLine cs = cs
-counts_after f t part.Header cs = cs
-counts_after f t (part.Size n) cs = cs
-counts_after f t (part.Rules m) cs = cs
-counts_after f t part.HeaderEnd cs = cs
-counts_after f t part.RuleLine cs = cs
-counts_after f t (part.Choice c) cs = cs
-counts_after f t part.CountOpen cs = cs
-counts_after f t (part.Lower k) cs = cs
-counts_after f t (part.Upper m) cs = cs
-counts_after f t (part.Member c) cs = cs
-counts_after f t part.CountClose cs = slice_set cs f.count_at (count_to f t)
-counts_after f t part.Comma cs = cs
-counts_after f t part.RuleEnd cs = cs
-counts_after f t part.End cs = cs
+-- the rows and entries once it is put in
+abbrev pub rules_put : Option Row → List RuleRow → List RuleRow
+rules_put None rs = rs
+rules_put (Some (Rule i r)) rs = slice_set rs i r
+rules_put (Some (Count i r)) rs = rs
+rules_put (Some (Entry i c)) rs = rs
 
-abbrev pub entries_after : Tally → Part → List ℕ → List ℕ
-entries_after t part.HeaderLine xs = xs
-entries_after t part.Header xs = xs
-entries_after t (part.Size n) xs = xs
-entries_after t (part.Rules m) xs = xs
-entries_after t part.HeaderEnd xs = xs
-entries_after t part.RuleLine xs = xs
-entries_after t (part.Choice c) xs = slice_set xs t.entries c
-entries_after t part.CountOpen xs = xs
-entries_after t (part.Lower k) xs = xs
-entries_after t (part.Upper m) xs = xs
-entries_after t (part.Member c) xs = slice_set xs t.entries c
-entries_after t part.CountClose xs = xs
-entries_after t part.Comma xs = xs
-entries_after t part.RuleEnd xs = xs
-entries_after t part.End xs = xs
+abbrev pub counts_put : Option Row → List CountRow → List CountRow
+counts_put None cs = cs
+counts_put (Some (Rule i r)) cs = cs
+counts_put (Some (Count i r)) cs = slice_set cs i r
+counts_put (Some (Entry i c)) cs = cs
+
+abbrev pub entries_put : Option Row → List ℕ → List ℕ
+entries_put None xs = xs
+entries_put (Some (Rule i r)) xs = xs
+entries_put (Some (Count i r)) xs = xs
+entries_put (Some (Entry i c)) xs = slice_set xs i c
 
 -- the storage with what is being read
 pub record Store : Type 0 where
@@ -110,9 +97,9 @@ put_part s p =
     record {
       filler = filler_after s.filler s.tally p;
       tally = counted s.tally p;
-      rules = rules_after s.filler s.tally p s.rules;
-      counts = counts_after s.filler s.tally p s.counts;
-      entries = entries_after s.tally p s.entries;
+      rules = rules_put (row_of s.filler s.tally p) s.rules;
+      counts = counts_put (row_of s.filler s.tally p) s.counts;
+      entries = entries_put (row_of s.filler s.tally p) s.entries;
     }
 
 abbrev pub fills : Store → List Part → Store

@@ -1,12 +1,12 @@
 //! The filling of storage from a file that was checked.
-ghost use Rattle.std.specs.Prelude.{◌≡◌, slice_set};
-ghost use Rattle.rule_store.specs.Filling.{side_from, side_to, filler_after, rules_after, counts_after, entries_after, fresh, Filled};
+ghost use Rattle.std.specs.Prelude.{◌≡◌, Some, slice_set};
+ghost use Rattle.rule_store.specs.Filling.{side_from, side_to, filler_after, row_of, rules_put, counts_put, entries_put, Filled};
 
 use rule_file::{FileReader, Part, Tally};
-use rules::{CountRow, NO_SIDE, NO_SPAN, RuleRow, Side, Span};
+use rules::{CountRow, RuleRow, Side, Span};
 
 /// The rule and the count that are being read, and where they will stand.
-#[derive(Drop)]
+#[derive(Clone, Copy, Default)]
 struct Filler {
     rule: RuleRow,
     rule_at: u16,
@@ -14,7 +14,16 @@ struct Filler {
     count_at: u16,
 }
 
-// Writes an element, where the list has that place.
+/// What is whole once a part is read, after the place where it stands in its list.
+#[derive(Clone, Copy)]
+enum Row {
+    Rule(u16, RuleRow),
+    Count(u16, CountRow),
+    Entry(u16, u16),
+}
+
+// Writes an element, where the list has that place. By an index, since for lists of any type the check does not know what a
+// write through `get_mut` leaves.
 fn store<T: Copy>(list: &mut [T], at: u16, value: T)
     ensures { list.new ≡ slice_set list.old at value }
 {
@@ -49,44 +58,17 @@ fn end(side: &mut Side, tally: Tally)
 }
 
 impl Filler {
-    fn new() -> Filler
-        ensures { result ≡ fresh }
-    {
-        Filler {
-            rule: RuleRow {
-                body: NO_SIDE,
-                head: NO_SIDE,
-            },
-            rule_at: 0,
-            count: CountRow {
-                lower: 0,
-                upper: 0,
-                choices: NO_SPAN,
-            },
-            count_at: 0,
-        }
-    }
-
-    // Puts one part more into the storage; the tally is that of the parts before it.
-    fn put(
-        &mut self,
-        part: Part,
-        tally: Tally,
-        rules: &mut [RuleRow],
-        counts: &mut [CountRow],
-        entries: &mut [u16],
-    )
+    // Takes one part more: the row or the entry that is whole with it. The tally is that of the parts before it.
+    fn take(&mut self, part: Part, tally: Tally) -> Option<Row>
         ensures filler { self.new ≡ filler_after self.old tally part }
-        ensures rules { rules.new ≡ rules_after self.old tally part rules.old }
-        ensures counts { counts.new ≡ counts_after self.old tally part counts.old }
-        ensures entries { entries.new ≡ entries_after tally part entries.old }
+        ensures row { result ≡ row_of self.old tally part }
     {
         match part {
             Part::RuleLine => {
                 self.rule.body = begun(tally);
                 self.rule_at = tally.rules;
             }
-            Part::Choice(n) | Part::Member(n) => store(entries, tally.entries, n),
+            Part::Choice(n) | Part::Member(n) => return Some(Row::Entry(tally.entries, n)),
             Part::CountOpen => {
                 self.count.choices.start = tally.entries;
                 self.count_at = tally.counts;
@@ -95,7 +77,7 @@ impl Filler {
             Part::Upper(n) => self.count.upper = n,
             Part::CountClose => {
                 self.count.choices.end = tally.entries;
-                store(counts, self.count_at, self.count);
+                return Some(Row::Count(self.count_at, self.count));
             }
             Part::Comma => {
                 end(&mut self.rule.body, tally);
@@ -103,9 +85,25 @@ impl Filler {
             }
             Part::RuleEnd => {
                 end(&mut self.rule.head, tally);
-                store(rules, self.rule_at, self.rule);
+                return Some(Row::Rule(self.rule_at, self.rule));
             }
             _ => {}
+        }
+        None
+    }
+}
+
+impl Row {
+    // Puts it into its list.
+    fn put(self, rules: &mut [RuleRow], counts: &mut [CountRow], entries: &mut [u16])
+        ensures rules { rules.new ≡ rules_put (Some self) rules.old }
+        ensures counts { counts.new ≡ counts_put (Some self) counts.old }
+        ensures entries { entries.new ≡ entries_put (Some self) entries.old }
+    {
+        match self {
+            Row::Rule(at, row) => store(rules, at, row),
+            Row::Count(at, row) => store(counts, at, row),
+            Row::Entry(at, choice) => store(entries, at, choice),
         }
     }
 }
@@ -120,17 +118,16 @@ pub(super) fn fill(
     ensures { Filled bytes.now rules.old counts.old entries.old rules.new counts.new entries.new }
 {
     let mut reader = FileReader::new(bytes);
-    let mut filler = Filler::new();
-    loop {
-        let before = reader.tally();
-        let part = match reader.next_part() {
-            Ok(part) => part,
-            // A file that was checked has no fault.
-            Err(_) => return,
-        };
-        if let Part::End = part {
+    let mut filler = Filler::default();
+    let mut tally = reader.tally();
+    // A file that was checked has no fault before its end.
+    while let Ok(part) = reader.next_part() {
+        if part == Part::End {
             return;
         }
-        filler.put(part, before, rules, counts, entries);
+        if let Some(row) = filler.take(part, tally) {
+            row.put(rules, counts, entries);
+        }
+        tally = reader.tally();
     }
 }

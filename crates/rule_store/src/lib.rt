@@ -5,11 +5,12 @@ ghost use Rattle.std.specs.Prelude.{MatchResult};
 ghost use Rattle.rule_book.specs.Meaning.{rules_of, size_of};
 ghost use Rattle.rule_file.specs.Files.{Refused};
 ghost use Rattle.rule_file.specs.Form.{File};
-ghost use Rattle.rule_store.specs.Storing.{Read};
+ghost use Rattle.rule_store.specs.Storing.{IsBlank, Read};
 
 mod fill;
 
 use fill::fill;
+use refusal::At;
 use rule_book::RuleBook;
 use rule_file::{Extent, Fault, FileCause, FileFault, check_file};
 use rules::{CountRow, MAX_COUNTS, MAX_ENTRIES, MAX_RULES, NO_COUNT, NO_RULE, RuleRow};
@@ -24,7 +25,14 @@ pub fn read_file(
     ensures { Read bytes.now rules.old counts.old entries.old rules.new counts.new entries.new result }
 {
     if rules.len() < MAX_RULES || counts.len() < MAX_COUNTS || entries.len() < MAX_ENTRIES {
-        return Err(FileFault::from((Fault::File(FileCause::Storage, 0), 1)));
+        let fault = At {
+            cause: FileCause::Storage,
+            place: 0,
+        };
+        return Err(FileFault {
+            fault: Fault::File(fault),
+            line: 1,
+        });
     }
     let extent = check_file(bytes)?;
     fill(bytes, rules, counts, entries);
@@ -40,7 +48,10 @@ pub struct Storage {
 }
 
 impl Storage {
-    pub fn new() -> Storage {
+    /// Storage that holds nothing yet.
+    pub fn new() -> Storage
+        ensures { IsBlank result }
+    {
         Storage {
             rules: [NO_RULE; MAX_RULES],
             counts: [NO_COUNT; MAX_COUNTS],
@@ -52,18 +63,8 @@ impl Storage {
     pub fn read(&mut self, bytes: &[u8]) -> Result<RuleBook<'_>, FileFault>
         ensures { MatchResult result (λ b. File bytes.now (size_of b) (rules_of b)) (Refused bytes.now) }
     {
-        let extent = read_file(
-            bytes,
-            &mut self.rules,
-            &mut self.counts,
-            &mut self.entries,
-        )?;
+        let extent = read_file(bytes, &mut self.rules, &mut self.counts, &mut self.entries)?;
         let rows = &self.rules[..extent.rules as usize];
-        Ok(RuleBook::new(
-            extent.size,
-            rows,
-            &self.counts,
-            &self.entries,
-        ))
+        Ok(RuleBook::new(extent.size, rows, &self.counts, &self.entries))
     }
 }

@@ -2,7 +2,7 @@
 use Rattle.std.proofs.Common.{◌≡◌, ℕ, ◌+◌, ◌-◌, ◌*◌, ◌/◌, ◌%◌, ◌<◌, ◌≤◌, ◌≢◌, List, [], ◌∷◌, ◌++◌, length, codes, decimal, sym, refl, ap, ◌∙◌, subst, append_assoc, append-nil, arith}
 use Rattle.std.specs.List.{All}
 use Rattle.std.proofs.lemmas.Fmt.{decimal_by_steps}
-use Rattle.std.proofs.lemmas.List.Elements.{All-nil, All-cons, All-head, All-tail, All-append, All-weaker, All-from_recursion, recursion_from_All}
+use Rattle.std.proofs.lemmas.List.Elements.{All-nil, All-cons, All-head, All-tail, All-append, All-weaker}
 use Rattle.scan.specs.Text.{First, IsDigit, NoDigit, InOneLine, value, Mark, an_opening, a_closing, a_comma, Spells, nothing, space, mark, digits, SpellsLine, headed, unheaded, ReadsFrom, file_end, whole_line}
 use Rattle.scan.specs.Words.{Word, line, header, number, opening, closing, comma, feed, end, Placed}
 use Rattle.rules.specs.Rules.{Item, choice, count, Rule}
@@ -41,12 +41,6 @@ numeral n h = decimal_by_steps Numeral one_digit one_more n h
 
 -- Lines of the grammar.
 
-in_one_line : (t : List ℕ) → All (λ b. b ≢ 10) t → InOneLine t
-in_one_line t h = recursion_from_All (λ b. b ≢ 10) t h
-
-unbroken : (t : List ℕ) → InOneLine t → All (λ b. b ≢ 10) t
-unbroken t h = All-from_recursion (λ b. b ≢ 10) t h
-
 -- Tokens, each with its word.
 
 abbrev Spelt : ℕ → List ℕ → List Word → Type 0
@@ -70,10 +64,10 @@ number_tells n h =
       spells = λ i rest vs apart k.
           let r = k (i + length (x.0 ∷ x.1)) in (
             (i, number (value 0 (x.0 ∷ x.1))) ∷ r.0,
-            subst (λ (z : List ℕ). Spells i (z ++ rest) ((i, number (value 0 (x.0 ∷ x.1))) ∷ r.0)) (sym x.2) (digits i x.0 x.1 rest r.0 (recursion_from_All IsDigit (x.0 ∷ x.1) x.3) apart r.1),
+            subst (λ (z : List ℕ). Spells i (z ++ rest) ((i, number (value 0 (x.0 ∷ x.1))) ∷ r.0)) (sym x.2) (digits i x.0 x.1 rest r.0 x.3 apart r.1),
             ap (λ (z : ℕ). number z ∷ words_only r.0) x.4 ∙ ap (λ (z : List Word). number n ∷ z) r.2,
           );
-      one_line = subst InOneLine (sym x.2) (in_one_line (x.0 ∷ x.1) (All-weaker IsDigit (λ b. b ≢ 10) (λ b d e. omega (arith, d.0)) (x.0 ∷ x.1) x.3));
+      one_line = subst InOneLine (sym x.2) (All-weaker IsDigit (λ b. b ≢ 10) (λ b d e. omega (arith, d.0)) (x.0 ∷ x.1) x.3);
       first = x.0;
       after = x.1;
       starts = x.2;
@@ -84,7 +78,7 @@ mark_tells : (b : ℕ) (w : Word) → Mark b w → (b ≢ 10) × (b ≢ 112) × 
 mark_tells b w m h =
     record {
       spells = λ i rest vs apart k. let r = k (i + 1) in ((i, w) ∷ r.0, mark i b w rest r.0 m r.1, ap (λ (z : List Word). w ∷ z) r.2);
-      one_line = (h.0, tt);
+      one_line = All-cons (λ b. b ≢ 10) b [] h.0 (All-nil (λ b. b ≢ 10));
       first = b;
       after = [];
       starts = refl;
@@ -118,11 +112,11 @@ spell (t ∷ u ∷ ts) (v ∷ vs) a i =
     a.0.spells i (32 ∷ spaced (u ∷ ts)) vs no_space (λ j. let r = spell (u ∷ ts) vs a.1 (j + 1) in (r.0, space j (spaced (u ∷ ts)) r.0 r.1, r.2))
 
 spaced_line : (ts : List (List ℕ)) (vs : List Word) → AllTell ts vs → InOneLine (spaced ts)
-spaced_line [] vs a = tt
+spaced_line [] vs a = All-nil (λ b. b ≢ 10)
 spaced_line (t ∷ ts) [] a = absurd a
 spaced_line (t ∷ []) (v ∷ vs) a = a.0.one_line
 spaced_line (t ∷ u ∷ ts) (v ∷ vs) a =
-    in_one_line (t ++ (32 ∷ spaced (u ∷ ts))) (All-append (λ b. b ≢ 10) t (32 ∷ spaced (u ∷ ts)) (unbroken t a.0.one_line) (All-cons (λ b. b ≢ 10) 32 (spaced (u ∷ ts)) (λ e. omega arith) (unbroken (spaced (u ∷ ts)) (spaced_line (u ∷ ts) vs a.1))))
+    All-append (λ b. b ≢ 10) t (32 ∷ spaced (u ∷ ts)) a.0.one_line (All-cons (λ b. b ≢ 10) 32 (spaced (u ∷ ts)) (λ e. omega arith) (spaced_line (u ∷ ts) vs a.1))
 
 first_of : (P : ℕ → Type 0) (t : List ℕ) (b : ℕ) (bs rest : List ℕ) → t ≡ b ∷ bs → P b → First P (t ++ rest)
 first_of P t b bs rest e p = subst (λ (z : List ℕ). First P (z ++ rest)) (sym e) p
@@ -165,7 +159,7 @@ header_reads i n m bs ws hn hm k =
     let a : AllTell ts vs = (number_tells n hn, (number_tells m hm, tt)) in
     let s = spell ts vs a (i + 1 + 1) in
     one_line_reads i (spaced (header_tokens n m)) bs ((i, header) ∷ s.0) (header ∷ vs) ws
-    ((λ e. omega arith), ((λ e. omega arith), spaced_line ts vs a))
+    (All-cons (λ b. b ≢ 10) 112 (32 ∷ spaced ts) (λ e. omega arith) (All-cons (λ b. b ≢ 10) 32 (spaced ts) (λ e. omega arith) (spaced_line ts vs a)))
     (headed i (32 ∷ spaced ts) s.0 (space (i + 1) (spaced ts) s.0 s.1))
     (ap (λ (z : List Word). header ∷ z) s.2) k
 

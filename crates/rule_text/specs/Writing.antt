@@ -3,9 +3,9 @@ use Rattle.std.specs.Prelude.{◌≡◌, ℕ, ◌<◌, ◌≤◌, ◌⊎◌, Lis
 use Rattle.std.specs.List.{flat_map, join_with_byte}
 use Rattle.output.specs.Writing.{Fits}
 use Rattle.rules.specs.Rules.{Item, choice, count, Rule}
-use Rattle.rule_file.specs.declared.fault.Fault.TheVariants.{File}
 use Rattle.rule_file.specs.declared.fault.FileCause.TheVariants.{Writing}
 use Rattle.rule_file.specs.declared.fault.FileFault.{FileFault}
+use Rattle.rule_file.specs.Faults.{file_at}
 
 -- Tokens are texts.
 abbrev pub numerals : List ℕ → List (List ℕ)
@@ -45,4 +45,4 @@ writing n rs = line_text (header_tokens n (length rs)) ++ rule_lines rs
 abbrev pub Written : List ℕ → List ℕ → List ℕ → Result ℕ FileFault → Type 0
 Written text out out' (Ok k) = (length text ≤ 65535) × Fits text out out' k
 Written text out out' (Err f) =
-    (f ≡ record { fault = File Writing 0; line = 1 }) × ((65535 < length text) ⊎ (length out < length text)) × (out' ≡ out)
+    (f ≡ record { fault = file_at Writing 0; line = 1 }) × ((65535 < length text) ⊎ (length out < length text)) × (out' ≡ out)

@@ -16,13 +16,17 @@ ghost use Rattle.rule_text.specs.Back.{Small, SmallItem, SmallRule, WritingsRead
 
 use book::Book;
 use output::{Text, write_whole};
+use refusal::At;
 use rule_book::{RuleBook, part};
 use rule_file::{Fault, FileCause, FileFault, MAX_BYTES};
 use rules::{CountRow, RuleRow, Side, Span};
 
 /// The refusal to write. Its place is 0, which is on line 1 of any file.
 const UNWRITTEN: FileFault = FileFault {
-    fault: Fault::File(FileCause::Writing, 0),
+    fault: Fault::File(At {
+        cause: FileCause::Writing,
+        place: 0,
+    }),
     line: 1,
 };
 

@@ -6,14 +6,14 @@
 #![tactic(auto)]
 
 /// A run of a list, from `start` up to `end`, which it leaves out.
-#[derive(Clone, Copy, PartialEq, Eq, Debug)]
+#[derive(Clone, Copy, PartialEq, Eq, Debug, Default)]
 pub struct Span {
     pub start: u16,
     pub end: u16,
 }
 
 /// A count: its bounds, and which entries are its choices.
-#[derive(Clone, Copy, PartialEq, Eq, Debug)]
+#[derive(Clone, Copy, PartialEq, Eq, Debug, Default)]
 pub struct CountRow {
     pub lower: u16,
     pub upper: u16,
@@ -21,14 +21,14 @@ pub struct CountRow {
 }
 
 /// One side of a rule: its entries, and the counts that some of them belong to.
-#[derive(Clone, Copy, PartialEq, Eq, Debug)]
+#[derive(Clone, Copy, PartialEq, Eq, Debug, Default)]
 pub struct Side {
     pub entries: Span,
     pub counts: Span,
 }
 
 /// A rule: its body and its head.
-#[derive(Clone, Copy, PartialEq, Eq, Debug)]
+#[derive(Clone, Copy, PartialEq, Eq, Debug, Default)]
 pub struct RuleRow {
     pub body: Side,
     pub head: Side,

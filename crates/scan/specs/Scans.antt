@@ -6,7 +6,7 @@ use Rattle.scan.specs.declared.Token.{Token}
 use Rattle.scan.specs.declared.Token.TheVariants.{Line, End, Number, Open, Close, Comma, Header, Stray, Feed, Cut}
 use Rattle.scan.specs.declared.ScanCause.{ScanCause}
 use Rattle.scan.specs.declared.ScanCause.TheVariants.{UnknownByte, NumberTooLarge}
-use Rattle.scan.specs.declared.ScanFault.{ScanFault}
+use Rattle.refusal.specs.declared.At.{At}
 use Rattle.scan.specs.declared.scanner.Position.{Position}
 use Rattle.scan.specs.declared.scanner.Position.TheVariants.{LineStart, FirstByte, Within}
 use Rattle.scan.specs.declared.scanner.Scanner.{Scanner}
@@ -78,7 +78,7 @@ Refused NumberTooLarge w = (v : ℕ) × (65535 < v) × (w ≡ number v)
 
 -- What the scanner, from one state to another, answers: the first word ahead as its token, or a refusal of it. After a
 -- refusal nothing is said of what is ahead.
-abbrev pub Answers : Scanner → Scanner → Result (ℕ × Token) ScanFault → Type 0
+abbrev pub Answers : Scanner → Scanner → Result (ℕ × Token) (At ScanCause) → Type 0
 Answers s s' (Ok t) = TokenFirst (ahead s) t.0 t.1 s'
 Answers s s' (Err f) = (w : Word) × (ws : List Placed) × (ahead s ≡ (f.place, w) ∷ ws) × Refused f.cause w
 
@@ -92,7 +92,7 @@ at_start Within = 0
 abbrev pub left : Scanner → ℕ
 left s = 2 * (length s.bytes.now - s.at) + at_start s.position
 
-abbrev pub Falls : Scanner → Scanner → Result (ℕ × Token) ScanFault → Type 0
+abbrev pub Falls : Scanner → Scanner → Result (ℕ × Token) (At ScanCause) → Type 0
 Falls s s' (Ok t) = final t.1 ≡ false → left s' < left s
 Falls s s' (Err f) = Unit {0}
 

@@ -9,11 +9,13 @@
 #![tactic(auto)]
 
 ghost use Rattle.std.specs.Prelude.{◌≡◌};
+ghost use Rattle.refusal.specs.declared.Layer.TheVariants.{Scan as ScanLayer};
 ghost use Rattle.scan.specs.Bytes.{kind};
 ghost use Rattle.scan.specs.Causes.{scan_number};
 
 mod scanner;
 
+use refusal::{At, Cause, Layer};
 pub use scanner::Scanner;
 
 /// What a byte is to the scanner.
@@ -64,17 +66,16 @@ pub enum ScanCause {
 }
 
 /// A fault of layer scan.
-#[derive(Clone, Copy, PartialEq, Eq, Debug)]
-pub struct ScanFault {
-    pub cause: ScanCause,
-    pub place: usize,
-}
+pub type ScanFault = At<ScanCause>;
 
-impl ScanCause {
-    /// The number by which the table of refusals knows the cause.
-    pub fn number(self) -> u8
-        ensures { result ≡ scan_number self }
-    {
+impl Cause for ScanCause {
+    ghost numbers = { scan_number };
+
+    ghost LAYER = { ScanLayer };
+
+    const LAYER: Layer = Layer::Scan;
+
+    fn number(self) -> u8 {
         match self {
             ScanCause::UnknownByte => 11,
             ScanCause::NumberTooLarge => 12,

@@ -2,10 +2,9 @@ use Rattle.std.proofs.Common.{◌≡◌, ℕ, ◌<◌, ◌≤◌, List, length, 
 use Rattle.std.specs.Result.{IsErrAnd}
 use Rattle.scan.specs.Bytes.{file_words}
 use Rattle.rule_file.specs.declared.fault.Fault.{Fault}
-use Rattle.rule_file.specs.declared.fault.Fault.TheVariants.{File}
 use Rattle.rule_file.specs.declared.fault.FileCause.TheVariants.{Bytes}
 use Rattle.rule_file.specs.declared.fault.FileFault.{FileFault}
-use Rattle.rule_file.specs.Faults.{located}
+use Rattle.rule_file.specs.Faults.{file_at, located}
 use Rattle.rule_file.specs.declared.file.Extent.{Extent}
 use Rattle.rule_file.specs.Files.{Checked, Refused}
 use Rattle.rule_file.specs.Machine.{start_mach, Refuses, ReadThrough, Passed}
@@ -15,7 +14,7 @@ use Rattle.rule_file.proofs.file.check_file.Goals as goal
 
 -- a fault with its line
 refused_at :
-    (bs : List ℕ) (f : Fault) (g : FileFault) → g ≡ located bs f → (65535 < length bs → f ≡ File Bytes 65535) → (length bs ≤ 65535 → Refuses start_mach (file_words bs) f) →
+    (bs : List ℕ) (f : Fault) (g : FileFault) → g ≡ located bs f → (65535 < length bs → f ≡ file_at Bytes 65535) → (length bs ≤ 65535 → Refuses start_mach (file_words bs) f) →
     Refused bs g × Passed bs (Err g)
 refused_at bs f g e b r =
     let q : g.fault ≡ f = ap (λ (z : FileFault). z.fault) e in
@@ -24,7 +23,7 @@ refused_at bs f g e b r =
 
 pub returns-then-bytes-gt-MAX_BYTES : goal.returns-then-bytes-gt-MAX_BYTES
 returns-then-bytes-gt-MAX_BYTES c =
-    let x = refused_at c.args.bytes.now (File Bytes 65535) c.refused.result c.refused.ensures (λ _. refl) (λ h. absurd (omega arith)) in
+    let x = refused_at c.args.bytes.now (file_at Bytes 65535) c.refused.result c.refused.ensures (λ _. refl) (λ h. absurd (omega arith)) in
     record { checked = x.0; passes = x.1; parts = passed_as_form; spelled = spelled_once; answered = answered_once }
 
 -- what the reading answers, with the line of its fault

@@ -1,5 +1,5 @@
 use Rattle.std.proofs.lemmas.Result.{err_from_is_err_and}
-use Rattle.rule_file.proofs.Moving.{moved, refused_line, refused_file, refused_rule}
+use Rattle.rule_file.proofs.Moving.{refused_line, refused_file, refused_rule}
 use Rattle.rule_file.proofs.file.FileReader.next_part.Goals as goal
 
 pub returns-in_err-place-clause-moves : goal.returns-in_err-place-clause-moves
