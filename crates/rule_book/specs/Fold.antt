@@ -1,5 +1,5 @@
 -- A rule's reading item by item is its reading.
-use Rattle.std.proofs.Common.{◌≡◌, ℕ, ◌+◌, Bool, true, false, cond, eqb, List, [], ◌∷◌, ◌++◌, sym, refl, ap, ◌∙◌, arith}
+use Rattle.std.proofs.Common.{◌≡◌, ℕ, ◌+◌, Bool, true, false, cond, eqb, List, [], ◌∷◌, ◌++◌, sym, refl, ap, ◌∙◌}
 use Rattle.book.specs.declared.Mark.{Mark}
 use Rattle.book.specs.declared.Answer.{Answer}
 use Rattle.book.specs.declared.Answer.TheVariants.{Yes as AnswerYes, No as AnswerNo}
@@ -33,10 +33,10 @@ weigh_append o ms (i ∷ is) js r = weigh_append o ms is js (weigh_item o ms i r
 
 -- a single unsure item never comes to broken
 quiet_broken : Quiet ≡ Broken → ⊥
-quiet_broken e = let z : ◌≡◌ {A = ℕ} 0 1 = cc in omega arith
+quiet_broken e = cc
 
 forced_broken : (c : ℕ) (v : Answer) → Forced c v ≡ Broken → ⊥
-forced_broken c v e = let z : ◌≡◌ {A = ℕ} 0 1 = cc in omega arith
+forced_broken c v e = cc
 
 cond_broken : (b : Bool) (x y : Reading) → (x ≡ Broken → ⊥) → (y ≡ Broken → ⊥) → cond b x y ≡ Broken → ⊥
 cond_broken true x y f g = f

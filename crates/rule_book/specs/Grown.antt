@@ -35,7 +35,7 @@ abbrev pub open_step : Mark → ℕ
 open_step m = cond (open_mark m) 1 0
 
 pub true_false : true ≡ false → ⊥
-true_false e = let z : ◌≡◌ {A = ℕ} 0 1 = cc in omega arith
+true_false e = cc
 
 -- one choice is yes at least where it was, and at most where it was yes or open
 step_low : (m n : Mark) → ((v : Answer) → m ≡ mark_of v → n ≡ mark_of v) → yes_step m ≤ yes_step n
@@ -128,7 +128,7 @@ abbrev pub Turns : List Mark → List Mark → List ℕ → ℕ → Type 0
 Turns ms a cs c = (mark_at ms c ≡ Open) × (mark_at a c ≡ Yes → yeses ms cs < yeses a cs) × (mark_at a c ≡ No → yeses a cs < yeses ms cs + opens ms cs)
 
 pub quiet_forced : (c : ℕ) (v : Answer) → Quiet ≡ Forced c v → ⊥
-quiet_forced c v e = let z : ◌≡◌ {A = ℕ} 0 1 = cc in omega arith
+quiet_forced c v e = cc
 
 is_open : (m : Mark) → open_mark m ≡ true → m ≡ Open
 is_open Open e = refl

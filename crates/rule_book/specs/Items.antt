@@ -67,7 +67,7 @@ first_by ms j is i us Unsure e rest f = let q : j ≡ i = cc in subst (λ (x : I
 
 -- the unsure items are unsure
 pub first_unsure : (ms : List Mark) (is : List Item) (i : Item) (us : List Item) → unsure_items ms is ≡ i ∷ us → status ms i ≡ Unsure
-first_unsure ms [] i us f = absurd (let z : ◌≡◌ {A = ℕ} 0 1 = cc in omega arith)
+first_unsure ms [] i us f = cc
 first_unsure ms (j ∷ is) i us f = first_by ms j is i us (status ms j) refl (first_unsure ms is i us) f
 
 -- with none open, no item is unsure

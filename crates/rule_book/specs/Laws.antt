@@ -18,10 +18,10 @@ use Rattle.rule_book.specs.Grown.{Grows, grows, same_grows, above, below, unsure
 use Rattle.rule_book.specs.Items.{all_unsure, some_unsure, lost_fails, sure_passes, first_unsure, no_unsure}
 
 quiet_broken : Quiet ≡ Broken → ⊥
-quiet_broken e = let z : ◌≡◌ {A = ℕ} 0 1 = cc in omega arith
+quiet_broken e = cc
 
 broken_forced : (c : ℕ) (v : Answer) → Broken ≡ Forced c v → ⊥
-broken_forced c v e = let z : ◌≡◌ {A = ℕ} 0 1 = cc in omega arith
+broken_forced c v e = cc
 
 -- the ways in which a rule comes to its reading
 abbrev Clear : List Mark → Rule → Type 0
@@ -39,7 +39,7 @@ data Way (ms : List Mark) (r : Rule) : Reading → Type 0 where
   several : (Unsures ms r [] [] → ⊥) → Way ms r Quiet
 
 some_item : (i : Item) (us vs : List Item) → vs ≡ i ∷ us → vs ≡ [] → ⊥
-some_item i us vs e f = let z : ◌≡◌ {A = ℕ} 0 1 = cc in omega arith
+some_item i us vs e f = cc
 
 way : (ms : List Mark) (r : Rule) → Way ms r (rule_reading ms r)
 way ms r = by (some_lost ms r.body) (some_sure ms r.head) refl refl

@@ -8,7 +8,7 @@ use Rattle.book.specs.Books.{Settled}
 use Rattle.rules.specs.Rules.{mark_at}
 
 pub no_open : No ≡ Open → ⊥
-no_open e = let z : ◌≡◌ {A = ℕ} 0 1 = cc in omega arith
+no_open e = cc
 
 pub get_or_any : (ms : List Mark) (k : ℕ) (d e : Mark) → k < length ms → get_or ms k d ≡ get_or ms k e
 get_or_any [] k d e h = absurd (omega arith)

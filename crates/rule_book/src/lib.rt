@@ -123,6 +123,7 @@ impl Tally {
         ensures yes { result.yes ≡ yeses marks.now choices.now }
         ensures undecided { result.undecided ≡ opens marks.now choices.now }
     {
+        // A single pass for both: each look at a mark costs.
         let mut yes = 0;
         let mut undecided = 0;
         for choice in choices {
@@ -262,6 +263,7 @@ impl<'a> RuleBook<'a> {
     fn weigh_side(&self, scale: &Scale, side: Side, before: Pressure) -> Option<Pressure>
         ensures { reading_of result ≡ weigh scale.now.role scale.now.marks.now (side_items self.now.counts.now self.now.entries.now side) (pressure_reading before) }
     {
+        // A loop, since it carries two things: the pressure, and where the choices before the next count start.
         let mut pressure = before;
         let mut start = side.entries.start;
         for row in part(self.counts, side.counts) {

@@ -36,30 +36,17 @@ fn choices(rt: HostRuntime) -> Result<(), Fail> {
         },
     }];
     let entries = [1, 2, 3, 4];
-    assert_eq!(rt;
-        read_four(&rules, &[], &entries, [Y, Y, N, N])?,
-        Reading::Broken
-    );
-    assert_eq!(rt;
-        read_four(&rules, &[], &entries, [Y, Y, N, O])?,
-        Reading::Forced(4, Answer::Yes)
-    );
-    assert_eq!(rt;
-        read_four(&rules, &[], &entries, [Y, O, N, N])?,
-        Reading::Forced(2, Answer::No)
-    );
-    assert_eq!(rt;
-        read_four(&rules, &[], &entries, [Y, O, N, O])?,
-        Reading::Quiet
-    );
-    assert_eq!(rt;
-        read_four(&rules, &[], &entries, [N, O, N, N])?,
-        Reading::Quiet
-    );
-    assert_eq!(rt;
-        read_four(&rules, &[], &entries, [Y, Y, O, Y])?,
-        Reading::Quiet
-    );
+    let cases = [
+        ([Y, Y, N, N], Reading::Broken),
+        ([Y, Y, N, O], Reading::Forced(4, Answer::Yes)),
+        ([Y, O, N, N], Reading::Forced(2, Answer::No)),
+        ([Y, O, N, O], Reading::Quiet),
+        ([N, O, N, N], Reading::Quiet),
+        ([Y, Y, O, Y], Reading::Quiet),
+    ];
+    for (marks, reading) in cases {
+        assert_eq!(rt; read_four(&rules, &[], &entries, marks)?, reading);
+    }
     Ok(())
 }
 
@@ -81,29 +68,16 @@ fn count_in_head(rt: HostRuntime) -> Result<(), Fail> {
         },
     }];
     let entries = [1, 2, 3, 4];
-    assert_eq!(rt;
-        read_four(&rules, &counts, &entries, [Y, Y, O, O])?,
-        Reading::Forced(3, Answer::No)
-    );
-    assert_eq!(rt;
-        read_four(&rules, &counts, &entries, [Y, N, N, O])?,
-        Reading::Forced(4, Answer::Yes)
-    );
-    assert_eq!(rt;
-        read_four(&rules, &counts, &entries, [Y, N, O, O])?,
-        Reading::Quiet
-    );
-    assert_eq!(rt;
-        read_four(&rules, &counts, &entries, [O, Y, O, O])?,
-        Reading::Quiet
-    );
-    assert_eq!(rt;
-        read_four(&rules, &counts, &entries, [Y, Y, Y, O])?,
-        Reading::Broken
-    );
-    assert_eq!(rt;
-        read_four(&rules, &counts, &entries, [O, Y, Y, O])?,
-        Reading::Forced(1, Answer::No)
-    );
+    let cases = [
+        ([Y, Y, O, O], Reading::Forced(3, Answer::No)),
+        ([Y, N, N, O], Reading::Forced(4, Answer::Yes)),
+        ([Y, N, O, O], Reading::Quiet),
+        ([O, Y, O, O], Reading::Quiet),
+        ([Y, Y, Y, O], Reading::Broken),
+        ([O, Y, Y, O], Reading::Forced(1, Answer::No)),
+    ];
+    for (marks, reading) in cases {
+        assert_eq!(rt; read_four(&rules, &counts, &entries, marks)?, reading);
+    }
     Ok(())
 }

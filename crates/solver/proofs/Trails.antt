@@ -1,6 +1,6 @@
 -- The trail in the work list.
-use Rattle.std.specs.Prelude.{◌≡◌, ℕ, zero, suc, ◌+◌, ◌-◌, ◌*◌, ◌/◌, ◌%◌, ◌<◌, ◌≤◌, Bool, true, false, ◌≢◌, List, [], ◌∷◌, length, nat_eq, slice_index, slice_index_or, slice_set, refl}
-use Rattle.std.proofs.Common.{ap, subst, add-one, arith, eq-eqb, ne_eqb, length-set, get_or-set_other, get_or-set_same}
+use Rattle.std.specs.Prelude.{◌≡◌, ℕ, zero, suc, ◌+◌, ◌*◌, ◌/◌, ◌%◌, ◌<◌, ◌≤◌, Bool, true, false, ◌≢◌, List, [], ◌∷◌, length, nat_eq, slice_index_or, slice_set, refl}
+use Rattle.std.proofs.Common.{ap, add-one, arith, eq-eqb, ne_eqb, length-set, get_or-set_other, get_or-set_same}
 use Rattle.book.specs.declared.Mark.{Mark}
 use Rattle.book.specs.declared.Mark.TheVariants.{Open, No}
 use Rattle.book.specs.Books.{open_mark}
@@ -43,14 +43,6 @@ trail_push d w s h =
     let le : d ≤ d = omega arith in
     rw (add-one d, get_or-set_same w d (entry_of s) 0 h, entry s, trail_set d w d (entry_of s) le)
 
--- the latest step on top of the trail
-pub trail_pop : (d : ℕ) (w : List ℕ) (s : Step) → 0 < d → s ≡ step_of (slice_index w (d - 1)) → trail_of d w ≡ s ∷ trail_of (d - 1) w
-trail_pop zero w s h e = absurd (omega arith)
-trail_pop (suc d) w s h e = let k : suc d - 1 ≡ d = omega arith in rw e (rw k)
-
-pub held_pop : (d : ℕ) (w : List ℕ) (s : Step) (ms : List Mark) → 0 < d → s ≡ step_of (slice_index w (d - 1)) → Held (trail_of d w) ms → Held (s ∷ trail_of (d - 1) w) ms
-held_pop d w s ms h e k = subst (λ (st : List Step). Held st ms) (trail_pop d w s h e) k
-
 pub held_count : (st : List Step) (ms : List Mark) → Held st ms → opens ms + length st ≡ length ms
 held_count [] ms h = omega (arith, h)
 held_count (s ∷ st) ms h =
@@ -68,9 +60,6 @@ held_push st s ms m p q o f k =
 
 pub unwind_here : (s : Step) (st st' : List Step) (ms ms' : List Mark) → s.trial ≡ true → ms' ≡ slice_set ms (place_of s) No → st' ≡ once_turned s ∷ st → Unwinds (s ∷ st) ms ms' st' true
 unwind_here s st st' ms ms' o m k = rw o (refl, m, k)
-
-pub unwind_on : (s : Step) (st st' : List Step) (ms ms' : List Mark) (r : Bool) → s.trial ≡ false → Unwinds st (slice_set ms (place_of s) Open) ms' st' r → Unwinds (s ∷ st) ms ms' st' r
-unwind_on s st st' ms ms' r o k = rw o k
 
 -- what is asked of a step that goes back on the trail
 pub room_again : (s : Step) (d : ℕ) (w : List ℕ) (ms ms' : List Mark) → Held (s ∷ trail_of d w) ms → ms' ≡ slice_set ms (place_of s) Open → (0 < s.choice) × (s.choice ≤ length ms') × (d < length ms')

@@ -1,6 +1,6 @@
 -- Lists of marks: how many are open, and the lowest of them.
-use Rattle.std.specs.Prelude.{◌≡◌, ℕ, zero, suc, ◌+◌, ◌<◌, ◌≤◌, Bool, true, false, cond, List, [], ◌∷◌, length, drop, set, replicate, ◌≢◌, slice_index_or, slice_set, refl}
-use Rattle.std.proofs.Common.{sym, ◌∙◌, ap, inl, inr, add-one, arith, drop-cons, set-set}
+use Rattle.std.specs.Prelude.{◌≡◌, ℕ, zero, suc, ◌<◌, ◌≤◌, Bool, true, false, cond, List, [], ◌∷◌, length, set, replicate, ◌≢◌, slice_index_or, slice_set, refl}
+use Rattle.std.proofs.Common.{sym, ◌∙◌, ap, inl, inr, arith, set-set}
 use Rattle.std.proofs.lemmas.List.{set-get_or}
 use Rattle.std.proofs.lemmas.Bool.{cases_lt}
 use Rattle.book.specs.declared.Answer.{Answer}
@@ -53,9 +53,6 @@ before_first (No ∷ ms) (suc k) h o = before_first ms k (omega arith) o
 
 pub settled_first : (ms : List Mark) → ((k : ℕ) → k < length ms → slice_index_or ms k Open ≢ Open) → length ms ≤ first_open ms
 settled_first ms s = elim (cases_lt (first_open ms) (length ms)) [ inl h ↦ absurd (s (first_open ms) h (first_is ms h)) | inr h ↦ h ]
-
-pub first_next : (ms : List Mark) (i : ℕ) → i < length ms → first_open (drop i ms) ≡ cond (open_mark (slice_index_or ms i Open)) 0 (suc (first_open (drop (i + 1) ms)))
-first_next ms i h = rw (drop-cons ms i Open, add-one i)
 
 pub not_open : (v : Answer) → open_mark (mark_of v) ≡ false
 not_open AnswerYes = refl

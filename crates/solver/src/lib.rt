@@ -76,6 +76,7 @@ fn run<B: Book>(book: &B, allowance: u64, marks: &mut [Mark], work: &mut [u16]) 
     let mut trail = Trail::new(marks, work);
     let mut trials = 0;
     let ending = loop {
+        // A book reads every list that is as long as it has choices.
         let Ok(reading) = book.read(trail.marks()) else {
             unreachable()
         };

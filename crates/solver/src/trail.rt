@@ -63,6 +63,8 @@ impl From<Step> for u16 {
 }
 
 /// The marks of a search, and the trail of the steps that made them: the work list has an entry for each mark that is not open.
+///
+/// That the steps are those of the marks (`Held`) is no ghost field: it fails between the two writes of a method.
 #[derive(Drop)]
 pub(crate) struct Trail<'a> {
     marks: &'a mut [Mark],
@@ -89,6 +91,7 @@ impl<'a> Trail<'a> {
         }
     }
 
+    /// The marks as they stand.
     pub(crate) fn marks(&self) -> &[Mark]
         ensures { result.now ≡ self.now.marks.now }
     {
