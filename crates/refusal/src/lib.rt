@@ -2,10 +2,12 @@
 //! crates share.
 #![tactic(auto)]
 
-ghost use Rattle.std.specs.Prelude.{◌≡◌, ℕ};
+ghost use Rattle.std.specs.Prelude.{◌≡◌, ℕ, Some};
 ghost use Rattle.refusal.specs.declared.Layer.{Layer as LayerOf};
 ghost use Rattle.refusal.specs.declared.Layer.TheVariants.{Job as JobLayer};
-ghost use Rattle.refusal.specs.Causes.{job_number, told};
+ghost use Rattle.refusal.specs.Causes.{layer_name, job_number, told, telling};
+
+use std::fmt;
 
 /// The part of the program that refuses.
 #[derive(Clone, Copy, PartialEq, Eq, Debug)]
@@ -24,6 +26,34 @@ pub struct Refusal {
     pub number: u8,
     pub place: usize,
     pub layer: Layer,
+}
+
+impl fmt::Display for Layer {
+    ghost output = { λ l. Some (layer_name l) };
+
+    fn fmt<W: fmt::Write>(&self, f: &mut fmt::Formatter<W>) -> fmt::Result {
+        f.write_str(match self {
+            Layer::File => "file",
+            Layer::Scan => "scan",
+            Layer::Line => "line",
+            Layer::Box => "box",
+            Layer::Job => "job",
+            Layer::Record => "record",
+        })
+    }
+}
+
+impl fmt::Display for Refusal {
+    ghost output = { λ r. Some (telling r) };
+
+    fn fmt<W: fmt::Write>(&self, f: &mut fmt::Formatter<W>) -> fmt::Result {
+        let Refusal {
+            number,
+            place,
+            layer,
+        } = *self;
+        write!(f, "refused {number} at {place} layer {layer}")
+    }
 }
 
 /// A kind of cause: that of one layer.
