@@ -1,5 +1,5 @@
 -- A job as a book, and its search.
-use Rattle.std.specs.Prelude.{ℕ, zero, suc, ◌+◌, ◌^◌, ◌≤◌, cond, Option, Result, List, [], ◌∷◌, ◌≢◌}
+use Rattle.std.specs.Prelude.{ℕ, zero, suc, ◌+◌, ◌^◌, ◌≤◌, cond, List, [], ◌∷◌, Option, Result, ◌≢◌}
 use Rattle.book.specs.declared.Mark.{Mark}
 use Rattle.book.specs.declared.Reading.{Reading}
 use Rattle.book.specs.Books.{open_mark, first_loud}
@@ -17,12 +17,12 @@ use Rattle.job.specs.declared.Job.{Job}
 abbrev pub stands : {B : Type 0} → Job B → Standing
 stands j = standing_of j.pins j.bans
 
--- the job over a book with a standing
+-- the job over a book, with that standing
 abbrev pub job_of : {B : Type 0} → B → Standing → Job B
 job_of b s = record { book = b; pins = s.pins; bans = s.bans }
 
--- A call on a job that takes what stands on it to s where no ground for refusal stands; where one does, that is told and all
--- stays. The book below stays in any case. j' is the job then.
+-- A call on job j that takes what stands on it to s, over the same book, where no ground for refusal stands; where one does,
+-- that is told and j stays. j' is the job then.
 abbrev pub Orders : {B : Type 0} → Option (At JobCause) → Standing → Job B → Result (Unit {0}) (At JobCause) → Job B → Type 0
 Orders o s j r j' = Does o j (job_of j.book s) r j'
 

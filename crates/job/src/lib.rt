@@ -103,6 +103,7 @@ impl<B: Book> Job<B> {
     ///
     /// `few` tells how many trials there can be, by the choices that are not pinned; the other clauses are those of a search of
     /// the job as a book.
+    #[tactic(auto, using(crate::proofs::Trials::searched_few))]
     pub fn search(
         &self,
         allowance: u64,

@@ -1,5 +1,5 @@
 -- What the first ban that has something to say says.
-use Rattle.std.proofs.Common.{◌≡◌, ℕ, zero, suc, ◌<◌, List, [], ◌∷◌, length, get_or, Some, None, Option, refl, ap, ◌∙◌, sym, arith}
+use Rattle.std.proofs.Common.{◌≡◌, ℕ, zero, suc, ◌<◌, List, [], ◌∷◌, length, get_or, Some, None, Option, refl, ◌∙◌, sym, arith}
 use Rattle.std.specs.Option.{MatchOption, unwrap_or}
 use Rattle.book.specs.declared.Mark.{Mark}
 use Rattle.book.specs.declared.Reading.{Reading}

@@ -16,7 +16,6 @@ use Rattle.std.proofs.lemmas.List.{drop_more, drop_all}
 use Rattle.std.proofs.lemmas.Bool.{cases_lt}
 use Rattle.book.specs.declared.Answer.{Answer}
 use Rattle.book.specs.declared.Mark.{Mark}
-use Rattle.book.specs.declared.Mark.TheVariants.{Open}
 use Rattle.book.specs.declared.Reading.{Reading}
 use Rattle.book.specs.declared.Reading.TheVariants.{Broken, Quiet, Forced}
 use Rattle.book.specs.Books.{loud, first_loud}

@@ -72,7 +72,9 @@ impl Ban {
         }
         let mut before = 0;
         for (place, member) in members.iter().enumerate() {
-            check_member(n, before, member.choice).map_err(|cause| JobFault { cause, place })?;
+            if let Err(cause) = check_member(n, before, member.choice) {
+                return Err(JobFault { cause, place });
+            }
             before = member.choice;
         }
         Ok(Ban::of(members))

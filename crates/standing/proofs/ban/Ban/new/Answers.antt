@@ -1,6 +1,8 @@
-use Rattle.std.proofs.Common.{None, sym, ◌∙◌}
+use Rattle.std.proofs.Common.{sym, ◌∙◌}
 use Rattle.standing.proofs.Members.{counted, fault_found}
 use Rattle.standing.proofs.ban.Ban.new.Goals as goal
 
-pub returns-in_err-map_err-clause-told : goal.returns-in_err-map_err-clause-told
-returns-in_err-map_err-clause-told c = let e = c.map_err.ensures in let f = c.check_member.ensures in let g = c.in_err-map_err in let h = c.from_residual.ensures in ?
+pub returns-in-Err-clause-told : goal.returns-in-Err-clause-told
+returns-in-Err-clause-told c =
+    sym (counted c.args.n.value c.args.members.now (sym c.if-is_empty.ensures) c.if-members-gt-MAX_MEMBERS.false ∙ sym c.loop-place.invariant ∙
+    fault_found c.args.n.value c.loop-place.before c.loop-place.place c.args.members.now _ c.loop-place-test.true c.in-Err.cause c.in-Err.ensures)

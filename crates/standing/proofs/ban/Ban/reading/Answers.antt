@@ -1,4 +1,4 @@
-use Rattle.std.proofs.Common.{rules, ◌≡◌, not, refl, sym, ◌∙◌}
+use Rattle.std.proofs.Common.{rules, sym, ◌∙◌}
 use borrow.Author.Tests.{tests}
 use Rattle.standing.proofs.Findings.{none_lacks, one_is_away, one_lacks, two_lack}
 use Rattle.standing.proofs.ban.Ban.reading.Goals as goal

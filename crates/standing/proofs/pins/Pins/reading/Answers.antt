@@ -1,6 +1,5 @@
-use Rattle.std.proofs.Common.{◌≡◌, ◌+◌, length, drop, sym, ap, ◌∙◌, length-append}
-use Rattle.book.specs.declared.Reading.{Reading}
-use Rattle.standing.proofs.Forced.{read_on, read_broken, read_more, read_end, loud_or}
+use Rattle.std.proofs.Common.{sym, ◌∙◌, length-append}
+use Rattle.standing.proofs.Forced.{read_broken, read_more, read_end, loud_or}
 use Rattle.standing.proofs.pins.Pins.reading.Goals as goal
 
 pub returns-in-Broken : goal.returns-in-Broken
