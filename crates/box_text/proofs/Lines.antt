@@ -1,10 +1,9 @@
 -- Where a text is cut into rows.
-use Rattle.std.proofs.Common.{◌≡◌, ℕ, zero, suc, ◌+◌, ◌-◌, ◌<◌, Bool, true, false, not, ◌&&◌, eqb, ◌⊎◌, List, [], ◌∷◌, length, get_or, take, drop, sym, refl, ap, ◌∙◌, subst, inl, inr, add-one, arith, length-drop}
-use Rattle.std.proofs.lemmas.Bool.{cases_Bool, eq-eqb, ne_eqb, eqb-true, and_left, and_right, or_left, true≢false}
-use Rattle.std.proofs.lemmas.List.{at_drop_more, take_rest, drop_all, nil_from_length}
+use Rattle.std.proofs.Common.{◌≡◌, ℕ, zero, suc, ◌+◌, ◌-◌, ◌<◌, ◌≤◌, Bool, true, false, ◌&&◌, eqb, ◌⊎◌, List, [], ◌∷◌, length, get_or, take, drop, ◌≢◌, sym, refl, ap, ◌∙◌, subst, inl, inr, add-one, arith, length-drop}
+use Rattle.std.proofs.lemmas.Bool.{cases_Bool, cases_lt, cases_eq, eq-eqb, ne_eqb, eqb-true, and_left, and_right, true≢false}
+use Rattle.std.proofs.lemmas.List.{take_rest, get_or-take, length-take-le, take-take}
 use Rattle.box_text.specs.Rows.{onto}
-use Rattle.box_text.specs.Cells.{digit}
-use Rattle.box_text.specs.Text.{feed_next, rows_of, some_byte, some_digit, heading}
+use Rattle.box_text.specs.Text.{feed_next, rows_of}
 
 no_return : (b : ℕ) (f : Bool) → (b ≡ 13 → f ≡ true → ⊥) → (eqb b 13 && f) ≡ false
 no_return b f n = at (cases_Bool (eqb b 13)) (cases_Bool f)
@@ -66,17 +65,8 @@ last_row (b ∷ bs) h before = last_from b bs before
 
 -- What a reader leaves, as `&rest[i..]` has it.
 
-pub rows_none : (bs : List ℕ) → eqb (length bs) 0 ≡ true → rows_of bs ≡ []
-rows_none bs e = ap rows_of (nil_from_length bs (eqb-true (length bs) 0 e))
-
 pub left_shorter : (i : ℕ) (bs : List ℕ) → 0 < length bs → 0 < i → length (take (length bs - i) (drop i bs)) < length bs
 left_shorter i bs h p = rw (take_rest bs i, length-drop i bs) (omega arith)
-
-pub takes_last :
-    (e : ℕ) (bs : List ℕ) → 0 < length bs → e ≡ length bs → ((k : ℕ) → k < e → get_or bs k 0 ≡ 10 → ⊥) →
-    rows_of bs ≡ bs ∷ rows_of (take (length bs - e) (drop e bs))
-takes_last e bs h q before =
-    last_row bs h (λ k l. before k (omega arith)) ∙ ap (λ z. bs ∷ z) (sym (ap rows_of (take_rest bs e ∙ drop_all e bs (omega arith))))
 
 left_is : (e : ℕ) (bs : List ℕ) → rows_of (drop (suc e) bs) ≡ rows_of (take (length bs - (e + 1)) (drop (e + 1) bs))
 left_is e bs = sym (ap rows_of (take_rest bs (e + 1)) ∙ ap (λ z. rows_of (drop z bs)) (add-one e))
@@ -94,19 +84,24 @@ pub takes_return :
 takes_return e bs p h before found back =
     cut_return_at (e - 1) e bs (omega arith) h before back found ∙ ap (λ z. take (e - 1) bs ∷ z) (left_is e bs)
 
--- Headings.
+-- A row that a line feed ends is told without the carriage return before it.
+pub takes_row :
+    (e : ℕ) (bs row : List ℕ) → e < length bs → ((k : ℕ) → k < e → get_or bs k 0 ≡ 10 → ⊥) → get_or bs e 0 ≡ 10 →
+    (0 < length (take e bs) → get_or (take e bs) (length (take e bs) - 1) 0 ≡ 13 → row ≡ take (length (take e bs) - 1) (take e bs)) →
+    ((0 < length (take e bs) → get_or (take e bs) (length (take e bs) - 1) 0 ≢ 13) → row ≡ take e bs) →
+    rows_of bs ≡ row ∷ rows_of (take (length bs - (e + 1)) (drop (e + 1) bs))
+takes_row e bs row h before found cut whole = by (cases_lt 0 e) (cases_eq (get_or bs (e - 1) 0) 13)
+  where
+    long : length (take e bs) ≡ e
+    long = length-take-le e bs (omega arith)
 
-pub digit_here : (i : ℕ) (bs : List ℕ) → i < length bs → digit (get_or bs i 0) ≡ true → some_digit (drop i bs) ≡ true
-digit_here i bs h e = at_drop_more some_digit bs i 0 h ∙ or_left (digit (get_or bs i 0)) (some_digit (drop (i + 1) bs)) e
+    last : 0 < e → get_or (take e bs) (length (take e bs) - 1) 0 ≡ get_or bs (e - 1) 0
+    last p = ap (λ (n : ℕ). get_or (take e bs) (n - 1) 0) long ∙ get_or-take e bs (e - 1) 0 (omega arith)
 
-pub digit_further : (i : ℕ) (bs : List ℕ) → i < length bs → digit (get_or bs i 0) ≡ false → some_digit (drop i bs) ≡ some_digit (drop (i + 1) bs)
-digit_further i bs h e =
-    let to : some_digit (get_or bs i 0 ∷ drop (i + 1) bs) ≡ some_digit (drop (i + 1) bs) = simp e in
-    at_drop_more some_digit bs i 0 h ∙ to
+    onto_row : (r : List ℕ) → row ≡ r → r ∷ rows_of (take (length bs - (e + 1)) (drop (e + 1) bs)) ≡ row ∷ rows_of (take (length bs - (e + 1)) (drop (e + 1) bs))
+    onto_row r q = ap (λ (z : List ℕ). z ∷ rows_of (take (length bs - (e + 1)) (drop (e + 1) bs))) (sym q)
 
-pub no_heading : (bs : List ℕ) → some_digit bs ≡ true → heading bs ≡ false
-no_heading bs e = and_right (some_byte bs) (not (some_digit bs)) (ap not e)
-
-pub heading_is : (bs : List ℕ) (r : Bool) → r ≡ eqb (length bs) 0 → some_digit bs ≡ false → not r ≡ heading bs
-heading_is [] r q e = ap not q
-heading_is (b ∷ bs) r q e = ap not (q ∙ ne_eqb (length (b ∷ bs)) 0 (λ z. omega arith)) ∙ sym (ap not e)
+    by : (0 < e) ⊎ (e ≤ 0) → (get_or bs (e - 1) 0 ≡ 13) ⊎ (get_or bs (e - 1) 0 ≡ 13 → ⊥) → rows_of bs ≡ row ∷ rows_of (take (length bs - (e + 1)) (drop (e + 1) bs))
+    by (inl p) (inl q) = takes_return e bs p h before found q ∙ onto_row (take (e - 1) bs) (cut (omega (arith, long)) (last p ∙ q) ∙ ap (λ (n : ℕ). take (n - 1) (take e bs)) long ∙ take-take (e - 1) e bs (omega arith))
+    by (inl p) (inr q) = takes_feed e bs h before found (λ _. q) ∙ onto_row (take e bs) (whole (λ _ r. q (sym (last p) ∙ r)))
+    by (inr p) q = takes_feed e bs h before found (λ r. absurd (omega arith)) ∙ onto_row (take e bs) (whole (λ r. absurd (omega (arith, long))))

@@ -1,7 +1,7 @@
 -- What a reader of rows answers, by the rows that are ahead of it.
 use Rattle.std.specs.Prelude.{◌≡◌, ℕ, ◌+◌, ◌<◌, List, [], ◌∷◌, length, Some, None, Option, Result}
 use Rattle.std.specs.Borrow.{Bor}
-use Rattle.box_text.specs.declared.Row.{Row}
+use Rattle.box_book.specs.declared.NameBox.{NameBox}
 use Rattle.box_text.specs.declared.CellCause.{CellCause}
 use Rattle.box_text.specs.declared.reader.RowReader.{RowReader}
 use Rattle.box_text.specs.Rows.{row_of}
@@ -24,7 +24,7 @@ abbrev pub AtEnd : RowReader → RowReader → Type 0
 AtEnd s s' = (ahead s ≡ []) × (ahead s' ≡ []) × (s'.number ≡ s.number)
 
 -- What the reader answers: what the first row ahead reads as, or nothing if no row is ahead.
-abbrev pub Answers : RowReader → RowReader → Option (Result Row CellCause) → Type 0
+abbrev pub Answers : RowReader → RowReader → Option (Result NameBox CellCause) → Type 0
 Answers s s' None = AtEnd s s'
 Answers s s' (Some a) = (row : List ℕ) × (a ≡ row_of row) × GoesOver row s s'
 

@@ -1,7 +1,7 @@
 -- A row as its cells, and what it reads as. Code 44 is the comma.
 use Rattle.std.specs.Prelude.{ℕ, Bool, cond, List, [], ◌∷◌, length, drop, Some, None, Ok, Err, Option, Result, ◌==◌, nat_le}
 use Rattle.std.specs.Borrow.{Bor}
-use Rattle.box_text.specs.declared.Row.{Row}
+use Rattle.box_book.specs.declared.NameBox.{NameBox}
 use Rattle.box_text.specs.declared.CellCause.{CellCause}
 use Rattle.box_text.specs.declared.CellCause.TheVariants.{Name, Edge}
 use Rattle.box_text.specs.declared.reading.Cells.{Cells}
@@ -26,13 +26,13 @@ abbrev pub number_at : ℕ → List (List ℕ) → Option ℕ
 number_at i cs = first_number (drop i cs)
 
 -- the number is there, or the row is refused
-abbrev pub given : Option ℕ → CellCause → (ℕ → Result Row CellCause) → Result Row CellCause
+abbrev pub given : Option ℕ → CellCause → (ℕ → Result NameBox CellCause) → Result NameBox CellCause
 given None e f = Err e
 given (Some v) e f = f v
 
 -- What a row reads as by the numbers of its first five cells, and whether there are no more cells. If the first has
 -- none, the name is at fault; after that an edge, by a further cell that has none or by a sixth cell.
-abbrev pub read_row : Option ℕ → Option ℕ → Option ℕ → Option ℕ → Option ℕ → Bool → Result Row CellCause
+abbrev pub read_row : Option ℕ → Option ℕ → Option ℕ → Option ℕ → Option ℕ → Bool → Result NameBox CellCause
 read_row name left top right bottom all =
     given name Name (λ n.
     given left (Edge n) (λ l.
@@ -41,11 +41,11 @@ read_row name left top right bottom all =
     given bottom (Edge n) (λ b.
     cond all (Ok (record { name = n; left = l; top = t; right = r; bottom = b })) (Err (Edge n)))))))
 
-abbrev pub row_of_cells : List (List ℕ) → Result Row CellCause
+abbrev pub row_of_cells : List (List ℕ) → Result NameBox CellCause
 row_of_cells cs = read_row (number_at 0 cs) (number_at 1 cs) (number_at 2 cs) (number_at 3 cs) (number_at 4 cs) (nat_le (length cs) 5)
 
 -- what the bytes of a row read as
-abbrev pub row_of : List ℕ → Result Row CellCause
+abbrev pub row_of : List ℕ → Result NameBox CellCause
 row_of bs = row_of_cells (cells bs)
 
 -- For the private functions.

@@ -1,5 +1,6 @@
 -- The text of a box list as rows. Codes: 10 line feed, 13 carriage return.
-use Rattle.std.specs.Prelude.{ℕ, Bool, true, false, cond, not, ◌&&◌, ◌||◌, List, [], ◌∷◌, ◌==◌}
+use Rattle.std.specs.Prelude.{ℕ, Bool, false, cond, not, ◌&&◌, List, [], ◌∷◌, length, ◌==◌}
+use Rattle.std.specs.List.{list_any}
 use Rattle.box_text.specs.Cells.{digit}
 use Rattle.box_text.specs.Rows.{onto}
 
@@ -17,18 +18,10 @@ rows_of (b ∷ bs) =
     cond (b == 13 && feed_next bs) (rows_of bs) (
     onto b (rows_of bs)))
 
-abbrev pub some_byte : List ℕ → Bool
-some_byte [] = false
-some_byte (b ∷ bs) = true
-
-abbrev pub some_digit : List ℕ → Bool
-some_digit [] = false
-some_digit (b ∷ bs) = digit b || some_digit bs
-
 -- Whether a first row is a heading: it is not empty, and no cell of it holds a digit. So a first row of spaces alone, or
 -- of commas alone, is a heading.
 abbrev pub heading : List ℕ → Bool
-heading bs = some_byte bs && not (some_digit bs)
+heading bs = not (length bs == 0) && not (list_any digit bs)
 
 -- the rows that are boxes: all but a heading, which only the first row can be
 abbrev pub past_heading : List (List ℕ) → List (List ℕ)

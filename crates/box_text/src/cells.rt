@@ -1,46 +1,31 @@
-ghost use Rattle.std.specs.Prelude.{◌≡◌, ◌≤◌, length, drop};
-ghost use Rattle.box_text.specs.Cells.{digit, past_spaces, cell_number};
-
-// The largest number that a cell can have.
-const LARGEST: u32 = 65535;
+ghost use Rattle.std.specs.Prelude.{◌≡◌};
+ghost use Rattle.box_text.specs.Cells.{past_spaces, cell_number};
 
 /// The number of a cell: digits, with spaces around them or none, of a value up to 65,535. Any other cell has none.
 pub fn cell_number(cell: &[u8]) -> Option<u16>
     ensures { result ≡ cell_number cell.now }
 {
-    let mut at = skip_spaces(cell, 0);
-    if at == cell.len() || !is_digit(cell[at]) {
+    let mut rest = past_spaces(cell);
+    if !rest.first()?.is_ascii_digit() {
         return None;
     }
-    let mut value: u32 = 0;
-    while at < cell.len() && is_digit(cell[at]) {
-        value = value * 10 + u32::from(cell[at] - b'0');
-        if value > LARGEST {
-            return None;
-        }
-        at += 1;
+    let mut value: u16 = 0;
+    while let [digit @ b'0'..=b'9', after @ ..] = rest {
+        value = value
+            .checked_mul(10)?
+            .checked_add(u16::from(*digit - b'0'))?;
+        rest = after;
     }
-    if skip_spaces(cell, at) < cell.len() {
-        return None;
-    }
-    Some(value as u16)
+    past_spaces(rest).is_empty().then_some(value)
 }
 
-// The place of the first byte from `from` on that is no space, or the cell's length.
-fn skip_spaces(cell: &[u8], from: usize) -> usize
-    requires { from ≤ length cell.now }
-    ensures within { (from ≤ result) × (result ≤ length cell.now) }
-    ensures past { past_spaces (drop from cell.now) ≡ drop result cell.now }
+// What stands after the spaces at the start.
+fn past_spaces(bytes: &[u8]) -> &[u8]
+    ensures { result.now ≡ past_spaces bytes.now }
 {
-    let mut at = from;
-    while at < cell.len() && cell[at] == b' ' {
-        at += 1;
+    let mut rest = bytes;
+    while let [b' ', after @ ..] = rest {
+        rest = after;
     }
-    at
-}
-
-pub fn is_digit(b: u8) -> bool
-    ensures { result ≡ digit b }
-{
-    b >= b'0' && b <= b'9'
+    rest
 }

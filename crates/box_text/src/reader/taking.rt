@@ -1,10 +1,12 @@
-ghost use Rattle.std.specs.Prelude.{◌≡◌};
-ghost use Rattle.box_text.specs.Reader.{ahead, Answers, Takes};
+ghost use Rattle.std.specs.Prelude.{◌≡◌, ◌-◌, ◌<◌, length, take, ◌≢◌, slice_index};
+ghost use Rattle.std.specs.Iterator.{at_most};
+ghost use Rattle.box_text.specs.Reader.{ahead, left, Answers, Takes};
 ghost use Rattle.box_text.specs.Text.{headings, past_heading, rows_of};
 
+use super::super::CellCause;
 use super::super::reading::{find, is_heading, row_of};
-use super::super::{CellCause, Row};
 use super::RowReader;
+use box_book::NameBox;
 
 impl<'a> RowReader<'a> {
     /// A reader at the first row that is a box: a heading is passed over.
@@ -16,25 +18,13 @@ impl<'a> RowReader<'a> {
             rest: bytes,
             number: 0,
         };
-        if let Some(row) = reader.take_row() {
-            if is_heading(row) {
-                return reader;
-            }
+        if reader.take_row().is_some_and(is_heading) {
+            return reader;
         }
         RowReader {
             rest: bytes,
             number: 0,
         }
-    }
-
-    /// What the next row reads as, or `None` after the last row.
-    pub fn next_row(&mut self) -> Option<Result<Row, CellCause>>
-        ensures { Answers self.old self.new result }
-    {
-        let Some(row) = self.take_row() else {
-            return None;
-        };
-        Some(row_of(row))
     }
 
     // Takes the next row.
@@ -45,17 +35,41 @@ impl<'a> RowReader<'a> {
         if rest.is_empty() {
             return None;
         }
-        let end = find(rest, b'\n');
-        if end == rest.len() {
-            self.rest = &rest[end..];
-            self.number += 1;
-            return Some(rest);
-        }
-        self.rest = &rest[end + 1..];
         self.number += 1;
-        if end > 0 && rest[end - 1] == b'\r' {
-            return Some(&rest[..end - 1]);
+        match find(rest, b'\n') {
+            Some(end) => {
+                self.rest = &rest[end + 1..];
+                Some(without_return(&rest[..end]))
+            }
+            None => {
+                self.rest = &[];
+                Some(rest)
+            }
         }
-        Some(&rest[..end])
+    }
+}
+
+/// What each row reads as, one after another.
+impl Iterator for RowReader<'_> {
+    type Item = Result<NameBox, CellCause>;
+
+    ghost next_gives = { λ s a t. Answers s t a };
+
+    ghost remaining = { λ s. at_most (left s) };
+
+    fn next(&mut self) -> Option<Result<NameBox, CellCause>> {
+        let row = self.take_row()?;
+        Some(row_of(row))
+    }
+}
+
+// A row that a line feed ends, without the carriage return before it.
+fn without_return(row: &[u8]) -> &[u8]
+    ensures cut { 0 < length row.now → slice_index row.now (length row.now - 1) ≡ 13 → result.now ≡ take (length row.now - 1) row.now }
+    ensures whole { (0 < length row.now → slice_index row.now (length row.now - 1) ≢ 13) → result.now ≡ row.now }
+{
+    match row {
+        [front @ .., b'\r'] => front,
+        _ => row,
     }
 }
