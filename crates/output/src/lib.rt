@@ -81,36 +81,6 @@ impl Text for u64 {
     }
 }
 
-impl Text for usize {
-    ghost bytes = { decimal };
-
-    ghost known = { λ number. number < 2 ^ 64 };
-
-    fn put(&self, out: &mut [u8], at: usize) -> Option<usize> {
-        put_number(out, at, *self as u64)
-    }
-}
-
-impl Text for u16 {
-    ghost bytes = { decimal };
-
-    ghost known = { λ number. number < 2 ^ 64 };
-
-    fn put(&self, out: &mut [u8], at: usize) -> Option<usize> {
-        put_number(out, at, u64::from(*self))
-    }
-}
-
-impl Text for u8 {
-    ghost bytes = { decimal };
-
-    ghost known = { λ number. number < 2 ^ 64 };
-
-    fn put(&self, out: &mut [u8], at: usize) -> Option<usize> {
-        put_number(out, at, u64::from(*self))
-    }
-}
-
 // Texts one after another. One impl for each length, since no impl is over all of them.
 impl<A: Text, B: Text> Text for (A, B) {
     ghost bytes = { λ parts. A.bytes parts.0 ++ B.bytes parts.1 };

@@ -85,8 +85,8 @@ impl Text for Position {
 
     fn put(&self, out: &mut [u8], at: usize) -> Option<usize> {
         match *self {
-            Position::Line(line) => (" line ", line).put(out, at),
-            Position::Row(row) => (" row ", row).put(out, at),
+            Position::Line(line) => (" line ", line as u64).put(out, at),
+            Position::Row(row) => (" row ", row as u64).put(out, at),
         }
     }
 }
@@ -95,8 +95,8 @@ impl Text for Refused {
     ghost bytes = { λ refused. refusal_text_at refused.refusal refused.position };
 
     fn put(&self, out: &mut [u8], at: usize) -> Option<usize> {
-        let cause = ("refused ", self.refusal.number);
-        let place = (" at ", self.refusal.place);
+        let cause = ("refused ", self.refusal.number as u64);
+        let place = (" at ", self.refusal.place as u64);
         (cause, place, self.position, "\n").put(out, at)
     }
 }

@@ -100,7 +100,7 @@ impl<'a> Text for Choices<'a> {
         let Choices { spacing, choices } = *self;
         let mut at = start;
         for choice in choices {
-            at = Spaced(spacing, *choice).put(out, at)?;
+            at = Spaced(spacing, *choice as u64).put(out, at)?;
         }
         Some(at)
     }
@@ -117,7 +117,9 @@ impl<'a> Text for Count<'a> {
             row,
             choices,
         } = *self;
-        let bounds = (Spaced(spacing, row.lower), Spaced(spacing, row.upper));
+        let lower = Spaced(spacing, row.lower as u64);
+        let upper = Spaced(spacing, row.upper as u64);
+        let bounds = (lower, upper);
         let choices = Choices { spacing, choices };
         (Spaced(spacing, "{"), bounds, choices, Spaced(spacing, "}")).put(out, at)
     }
@@ -197,8 +199,9 @@ impl<'a> Text for BookFile<'a> {
     fn put(&self, out: &mut [u8], start: usize) -> Option<usize> {
         let book = self.book;
         let rules = book.rules();
-        let header = (("p ", book.choices()), (" ", rules.len()), "\n");
-        let mut at = header.put(out, start)?;
+        let size = ("p ", book.choices() as u64);
+        let count = (" ", rules.len() as u64);
+        let mut at = (size, count, "\n").put(out, start)?;
         for row in rules {
             at = RuleLine { book, row: *row }.put(out, at)?;
         }
