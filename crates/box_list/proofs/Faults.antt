@@ -6,12 +6,11 @@ use Rattle.box_book.specs.declared.BoxCause.{BoxCause}
 use Rattle.box_book.specs.declared.BoxCause.TheVariants.{TooMany, Name, Edge, NameFalls}
 use Rattle.box_book.specs.Causes.{box_number, box_at, name_before, NumberFits, EdgesFit, HasCause, Clean}
 use Rattle.box_book.proofs.Checks.{leads}
-use Rattle.box_text.specs.declared.Row.{Row}
 use Rattle.box_text.specs.declared.CellCause.{CellCause}
 use Rattle.box_text.specs.declared.CellCause.TheVariants.{Name as NameCell, Edge as EdgeCell}
 use Rattle.box_list.specs.Spelling.{row_at, cell, SpellsEdges, Spells}
 use Rattle.box_list.specs.Causes.{Falls, CauseAt, NoFault, FirstFault}
-use Rattle.box_list.specs.Lists.{box_of, Judged}
+use Rattle.box_list.specs.Lists.{Judged}
 use Rattle.box_list.proofs.RowCells.{CellsOf, some_none}
 
 -- the row at a place spells the box at that place of the list, which is clean
@@ -104,15 +103,15 @@ module _ (rows : List (List ℕ)) (list : List NameBox) (i before : ℕ) (few : 
   least_edge n e h Edge f x = omega arith
   least_edge n e h NameFalls f x = omega arith
 
-  least : (a : Result Row CellCause) (c : BoxCause) → CellsOf (row_at rows i) a → Judged a before (Err c) → Least c
+  least : (a : Result NameBox CellCause) (c : BoxCause) → CellsOf (row_at rows i) a → Judged a before (Err c) → Least c
   unfolding Least
-  least (Ok w) c s j = (to (box_of w) s c j.0, λ d f x. j.1 d (from (box_of w) s d f x))
+  least (Ok w) c s j = (to w s c j.0, λ d f x. j.1 d (from w s d f x))
   least (Err NameCell) c e j = subst Least (sym j) ((lt, λ n q _. some_none (sym e ∙ q)), λ d f x. least_name d f)
   least (Err (EdgeCell n)) c e (inl j) = subst Least (sym j.1) ((lt, λ b s _. e.1 b s), least_edge n e.0 j.0)
   least (Err (EdgeCell n)) c e (inr j) =
       subst Least (sym j.1) ((lt, λ m q h. let o : m ≡ n = same_some (sym q ∙ e.0) in j.0 (omega arith, omega arith)), λ d f x. least_name d f)
 
-  pub first_fault : (a : Result Row CellCause) (c : BoxCause) → CellsOf (row_at rows i) a → Judged a before (Err c) → FirstFault rows (record { cause = c; place = i })
+  pub first_fault : (a : Result NameBox CellCause) (c : BoxCause) → CellsOf (row_at rows i) a → Judged a before (Err c) → FirstFault rows (record { cause = c; place = i })
   unfolding Least
   first_fault a c e j =
       let l = least a c e j in

@@ -4,7 +4,6 @@ use Rattle.std.proofs.lemmas.List.{drop-drop, drop-set-lt, get_or-take, length-t
 use Rattle.box_book.specs.declared.NameBox.{NameBox}
 use Rattle.box_book.specs.Causes.{no_box, box_at, name_before, Clean}
 use Rattle.box_book.proofs.Checks.{sound_by}
-use Rattle.box_text.specs.declared.Row.{Row}
 use Rattle.box_text.specs.declared.CellCause.{CellCause}
 use Rattle.box_list.specs.Spelling.{box_rows, row_at, Spells}
 use Rattle.box_list.specs.Lists.{Judged, Listed}
@@ -22,7 +21,7 @@ pub filled_none : (rows : List (List ℕ)) (list : List NameBox) → length list
 filled_none rows list l = record { taken = λ k h. absurd (omega arith); last = refl; rest = refl; long = l }
 
 -- the box that a row is
-pub judged_box : (row : List ℕ) (a : Result Row CellCause) (before : ℕ) (b : NameBox) → CellsOf row a → Judged a before (Ok b) → Spells row b × Clean b before
+pub judged_box : (row : List ℕ) (a : Result NameBox CellCause) (before : ℕ) (b : NameBox) → CellsOf row a → Judged a before (Ok b) → Spells row b × Clean b before
 judged_box row (Ok w) before b s j = (subst (Spells row) (sym j.0) s, j.1)
 judged_box row (Err e) before b s j = absurd j
 

@@ -5,7 +5,6 @@ use Rattle.box_book.specs.declared.NameBox.{NameBox}
 use Rattle.box_book.specs.declared.BoxCause.{BoxCause}
 use Rattle.box_book.specs.declared.BoxCause.TheVariants.{TooMany, Name, Edge}
 use Rattle.box_book.specs.Causes.{told_box, NumberFits, Clean, FirstCause, Sound}
-use Rattle.box_text.specs.declared.Row.{Row}
 use Rattle.box_text.specs.declared.CellCause.{CellCause}
 use Rattle.box_text.specs.declared.CellCause.TheVariants.{Name as NameCell, Edge as EdgeCell}
 use Rattle.box_text.specs.Text.{rows_of, headings}
@@ -44,13 +43,14 @@ told_list f = told_box f.fault
 
 -- For the private functions.
 
-abbrev pub box_of : Row → NameBox
-box_of w = record { name = w.name; left = w.left; top = w.top; right = w.right; bottom = w.bottom }
+-- The cause of a row that is no box: an edge is told only of a name that may be.
+abbrev pub Told : CellCause → BoxCause → Type 0
+Told NameCell c = c ≡ Name
+Told (EdgeCell n) c = (NumberFits n × (c ≡ Edge)) ⊎ ((NumberFits n → ⊥) × (c ≡ Name))
 
 -- A row that reads so, after a box with that name, is a box or has a cause.
-abbrev pub Judged : Result Row CellCause → ℕ → Result NameBox BoxCause → Type 0
-Judged (Ok w) before (Ok b) = (b ≡ box_of w) × Clean b before
-Judged (Ok w) before (Err c) = FirstCause (box_of w) before c
+abbrev pub Judged : Result NameBox CellCause → ℕ → Result NameBox BoxCause → Type 0
+Judged (Ok w) before (Ok b) = (b ≡ w) × Clean b before
+Judged (Ok w) before (Err c) = FirstCause w before c
 Judged (Err e) before (Ok b) = ⊥
-Judged (Err NameCell) before (Err c) = c ≡ Name
-Judged (Err (EdgeCell n)) before (Err c) = (NumberFits n × (c ≡ Edge)) ⊎ ((NumberFits n → ⊥) × (c ≡ Name))
+Judged (Err e) before (Err c) = Told e c

@@ -6,10 +6,10 @@
 
 ghost use Rattle.std.specs.Prelude.{◌≡◌, ℕ, ◌<◌, ◌≤◌, true, List, ◌++◌, length, IfOk, MatchOption, nat_lt};
 ghost use Rattle.box_list.specs.Spelling.{box_rows};
-ghost use Rattle.box_list.specs.Lists.{row_number, Refused, Read, surplus, told_list, Judged};
+ghost use Rattle.box_list.specs.Lists.{row_number, Refused, Read, surplus, told_list, Judged, Told};
 
 use box_book::{BOX_LIMIT, BoxCause, BoxFault, NameBox, name_fits};
-use box_text::{CellCause, Row, RowReader};
+use box_text::{CellCause, RowReader};
 use refusal::Refusal;
 
 /// Why a text is refused: the fault of its boxes, and the row of the text, counted from 1, on which that box stands.
@@ -28,25 +28,23 @@ impl From<BoxListFault> for Refusal {
 }
 
 /// The box that a row is, where the box before it has that name. The first box follows name 0.
-fn judge(row: Result<Row, CellCause>, before: u16) -> Result<NameBox, BoxCause>
+fn judge(row: Result<NameBox, CellCause>, before: u16) -> Result<NameBox, BoxCause>
     ensures { Judged row before result }
 {
-    match row {
-        Ok(row) => {
-            let b = NameBox {
-                name: row.name,
-                left: row.left,
-                top: row.top,
-                right: row.right,
-                bottom: row.bottom,
-            };
-            match b.fault(before) {
-                None => Ok(b),
-                Some(cause) => Err(cause),
-            }
-        }
-        Err(CellCause::Edge(name)) if name_fits(name) => Err(BoxCause::Edge),
-        Err(_) => Err(BoxCause::Name),
+    let b = row.map_err(told)?;
+    match b.fault(before) {
+        None => Ok(b),
+        Some(cause) => Err(cause),
+    }
+}
+
+/// The cause of a row that is no box.
+fn told(cause: CellCause) -> BoxCause
+    ensures { Told cause result }
+{
+    match cause {
+        CellCause::Edge(name) if name_fits(name) => BoxCause::Edge,
+        CellCause::Edge(_) | CellCause::Name => BoxCause::Name,
     }
 }
 
@@ -55,10 +53,7 @@ fn surplus_row(text: &[u8]) -> Option<usize>
     ensures { MatchOption result (length (box_rows text.now) ≤ 4096) (λ row. (4096 < length (box_rows text.now)) × (row ≡ row_number text.now 4096)) }
 {
     let mut reader = RowReader::new(text);
-    for _taken in 0..BOX_LIMIT {
-        let _ = reader.next_row()?;
-    }
-    let _ = reader.next_row()?;
+    let _ = reader.nth(BOX_LIMIT)?;
     Some(reader.row_number())
 }
 
@@ -87,7 +82,7 @@ pub fn read_boxes(text: &[u8], boxes: &mut [NameBox; BOX_LIMIT]) -> Result<usize
     let mut count = 0;
     let mut before = 0;
     let mut reader = RowReader::new(text);
-    while let Some(row) = reader.next_row() {
+    while let Some(row) = reader.next() {
         match judge(row, before) {
             Ok(b) => {
                 before = b.name;
