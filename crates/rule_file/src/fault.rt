@@ -132,6 +132,14 @@ impl From<LineFault> for Fault {
     }
 }
 
+impl From<(Fault, usize)> for FileFault {
+    ghost from_gives = { λ p f. f ≡ record { fault = p.0; line = p.1 } };
+
+    fn from((fault, line): (Fault, usize)) -> FileFault {
+        FileFault { fault, line }
+    }
+}
+
 impl From<LineFault> for Refusal {
     ghost from_gives = { λ f r. r ≡ told_line f };
 

@@ -168,10 +168,7 @@ fn line_of(bytes: &[u8], place: usize) -> usize
 fn refused(fault: Fault, bytes: &[u8]) -> FileFault
     ensures { result ≡ located bytes.now fault }
 {
-    FileFault {
-        fault,
-        line: line_of(bytes, fault.place()),
-    }
+    FileFault::from((fault, line_of(bytes, fault.place())))
 }
 
 /// Checks a file and writes nothing: what it takes in storage, or the fault that is told of it.

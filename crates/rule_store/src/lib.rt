@@ -29,10 +29,7 @@ pub fn read_file(
             cause: FileCause::Storage,
             place: 0,
         };
-        return Err(FileFault {
-            fault: Fault::File(fault),
-            line: 1,
-        });
+        return Err(FileFault::from((Fault::File(fault), 1)));
     }
     let extent = check_file(bytes)?;
     fill(bytes, rules, counts, entries);
