@@ -27,8 +27,8 @@ pub fn print_search<B: Book>(book: &B, allowance: u64, out: &mut [u8]) -> Result
     let n = book.choices() as usize;
     let mut marks = [Mark::Open; MAX_CHOICES];
     let mut work = [0; MAX_CHOICES];
-    let marks = &mut marks[..n];
-    let Ok(verdict) = search(book, allowance, marks, &mut work[..n]) else {
+    let marks = &mut marks[0..n];
+    let Ok(verdict) = search(book, allowance, marks, &mut work[0..n]) else {
         unreachable()
     };
     print_verdict(out, verdict, marks)
@@ -53,7 +53,7 @@ pub fn set_boxes(text: &[u8], allowance: u64, out: &mut [u8]) -> Result<usize, J
 {
     let mut boxes = [NO_BOX; BOX_LIMIT];
     match read_boxes(text, &mut boxes) {
-        Ok(n) => print_search(&BoxBook::of(&boxes[..n]), allowance, out),
+        Ok(n) => print_search(&BoxBook::of(&boxes[0..n]), allowance, out),
         Err(fault) => print_refusal_at(out, Refusal::from(fault), Position::Row(fault.row)),
     }
 }

@@ -20,7 +20,7 @@ returns-in-Ok c =
     let listed = c.in-Ok.ensures.read.1 in
     let zero : n - 0 ≡ n = omega arith in
     let front : take (n - 0) list ≡ take n list = ap (λ (k : ℕ). take k list) zero in
-    let same : c.of-book.result.boxes.now ≡ take n list = c.of-book.ensures.sound (subst Sound (sym front) listed.sound) ∙ front in
+    let same : c.of.result.boxes.now ≡ take n list = c.of.ensures.sound (subst Sound (sym front) listed.sound) ∙ front in
     let printed = λ (bs : List NameBox). SearchPrinted (length bs) (Allowed bs) (boxes_reading bs) c.args.allowance c.args.out.now c.print_search.new.out c.print_search.result in
     record {
       printed = sought (take n list) listed (subst printed same c.print_search.ensures.searched);
