@@ -16,6 +16,7 @@ mod size;
 pub use size::{MAX_CHOICES, SheetSize};
 
 /// The mark of one choice.
+// Not an `Option<Answer>`: the three are told apart side by side wherever marks are read.
 #[derive(Clone, Copy, PartialEq, Eq, Debug)]
 pub enum Mark {
     Open,
@@ -31,6 +32,7 @@ pub enum Answer {
 }
 
 /// What a book says of some marks.
+// `loud` gives it as an Option where a first reading is looked for; elsewhere the three stand side by side.
 #[derive(Clone, Copy, PartialEq, Eq, Debug)]
 pub enum Reading {
     /// No allowed arrangement extends the marks.

@@ -22,6 +22,7 @@ impl SheetSize {
     }
 
     /// The size of a sheet with no choices.
+    // By a name of its own: it is nobody's default.
     pub fn zero() -> SheetSize
         ensures { result.value ≡ 0 }
     {

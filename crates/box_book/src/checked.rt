@@ -1,13 +1,25 @@
-ghost use Rattle.std.specs.Prelude.{◌≡◌, []};
-ghost use Rattle.box_book.specs.Causes.{Sound};
+ghost use Rattle.std.specs.Prelude.{◌≡◌, [], MatchResult};
+ghost use Rattle.box_book.specs.Causes.{Sound, FirstFault};
 
-use super::{NameBox, check_boxes};
+use super::{BoxFault, NameBox, check_boxes};
 
 /// The book of a box list, which is sound.
 #[derive(Clone, Copy)]
 pub struct BoxBook<'a> {
     boxes: &'a [NameBox],
     ghost sound: { Sound boxes.now },
+}
+
+/// The book of a sound list, or the fault that is told of the list.
+impl<'a> TryFrom<&'a [NameBox]> for BoxBook<'a> {
+    type Error = BoxFault;
+
+    ghost try_from_gives = { λ boxes r. MatchResult r (λ b. b.boxes.now ≡ boxes.now) (FirstFault boxes.now) };
+
+    fn try_from(boxes: &'a [NameBox]) -> Result<BoxBook<'a>, BoxFault> {
+        check_boxes(boxes)?;
+        Ok(BoxBook { boxes })
+    }
 }
 
 impl<'a> BoxBook<'a> {

@@ -13,6 +13,7 @@ use box_text::{CellCause, RowReader};
 use refusal::Refusal;
 
 /// Why a text is refused: the fault of its boxes, and the row of the text, counted from 1, on which that box stands.
+// Not one type with the fault of a rule file, whose line is printed under another word.
 #[derive(Clone, Copy, PartialEq, Eq, Debug)]
 pub struct BoxListFault {
     pub fault: BoxFault,
@@ -77,7 +78,7 @@ pub fn read_boxes(text: &[u8], boxes: &mut [NameBox; BOX_LIMIT]) -> Result<usize
         };
         return Err(BoxListFault { fault, row });
     }
-    // A refusal leaves the list as it was, so a copy is filled.
+    // A refusal leaves the list as it was, so a copy is filled; an ArrayVec would lose what stands after the boxes.
     let mut list = *boxes;
     let mut count = 0;
     let mut before = 0;

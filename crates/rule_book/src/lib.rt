@@ -36,6 +36,7 @@ enum Role {
 }
 
 /// Whether an item holds in every arrangement that extends the marks, in none, or that depends.
+// Not an `Option<bool>`, whose cases don't say what they mean here.
 #[derive(Clone, Copy)]
 enum Status {
     Sure,
@@ -119,6 +120,7 @@ impl From<Pressure> for Reading {
 }
 
 impl Tally {
+    // A loop, since it counts two things in one pass.
     fn of(marks: &[Mark], choices: &[u16]) -> Tally
         ensures yes { result.yes ≡ yeses marks.now choices.now }
         ensures undecided { result.undecided ≡ opens marks.now choices.now }

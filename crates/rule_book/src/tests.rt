@@ -1,4 +1,5 @@
 use super::*;
+use rules::NO_SPAN;
 use std::test::Fail;
 
 const O: Mark = Mark::Open;
@@ -6,8 +7,6 @@ const O: Mark = Mark::Open;
 const Y: Mark = Mark::Yes;
 
 const N: Mark = Mark::No;
-
-const NONE: Span = Span { start: 0, end: 0 };
 
 /// The reading of rules on four choices.
 fn read_four<'a>(
@@ -28,11 +27,11 @@ fn choices(rt: HostRuntime) -> Result<(), Fail> {
     let rules = [RuleRow {
         body: Side {
             entries: Span { start: 0, end: 2 },
-            counts: NONE,
+            counts: NO_SPAN,
         },
         head: Side {
             entries: Span { start: 2, end: 4 },
-            counts: NONE,
+            counts: NO_SPAN,
         },
     }];
     let entries = [1, 2, 3, 4];
@@ -60,7 +59,7 @@ fn count_in_head(rt: HostRuntime) -> Result<(), Fail> {
     let rules = [RuleRow {
         body: Side {
             entries: Span { start: 0, end: 1 },
-            counts: NONE,
+            counts: NO_SPAN,
         },
         head: Side {
             entries: Span { start: 1, end: 4 },

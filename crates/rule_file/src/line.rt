@@ -75,7 +75,7 @@ pub struct LineReader {
     state: State,
     /// That of the header. Before it no choice will do, as on a sheet with none.
     size: SheetSize,
-    /// Which choices the count that is read has had.
+    /// Which choices the count that is read has had. A flag for each, since a set would take memory.
     seen: [bool; MAX_CHOICES + 1],
 }
 

@@ -32,6 +32,7 @@ const UNWRITTEN: FileFault = FileFault {
 
 /// Where a token's space stands: after it before the comma of a rule, and before it from there on, so that one space comes
 /// between any two tokens and none at the ends of the line.
+// An enum and no closure: what is written names which of the two it is.
 #[derive(Clone, Copy)]
 enum Spacing {
     After,

@@ -1,20 +1,19 @@
 use super::*;
 use book::SheetSize;
+use rules::NO_SPAN;
 use std::process::Abort;
 use std::test::Fail;
-
-const NONE: Span = Span { start: 0, end: 0 };
 
 /// A rule of choices, a rule with counts too, and one without items.
 const RULES: [RuleRow; 3] = [
     RuleRow {
         body: Side {
             entries: Span { start: 0, end: 2 },
-            counts: NONE,
+            counts: NO_SPAN,
         },
         head: Side {
             entries: Span { start: 2, end: 3 },
-            counts: NONE,
+            counts: NO_SPAN,
         },
     },
     RuleRow {
@@ -29,12 +28,12 @@ const RULES: [RuleRow; 3] = [
     },
     RuleRow {
         body: Side {
-            entries: NONE,
-            counts: NONE,
+            entries: NO_SPAN,
+            counts: NO_SPAN,
         },
         head: Side {
-            entries: NONE,
-            counts: NONE,
+            entries: NO_SPAN,
+            counts: NO_SPAN,
         },
     },
 ];

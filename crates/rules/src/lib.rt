@@ -41,7 +41,7 @@ pub const MAX_COUNTS: usize = 1024;
 
 pub const MAX_ENTRIES: usize = 16384;
 
-/// Rows of nothing: what storage may hold before it is filled.
+/// Rows of nothing, which are also the defaults: what storage may hold before it is filled.
 pub const NO_SPAN: Span = Span { start: 0, end: 0 };
 
 pub const NO_SIDE: Side = Side {

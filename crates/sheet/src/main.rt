@@ -5,12 +5,13 @@
 ghost use Rattle.std.specs.Prelude.{◌≤◌, length, IfOk};
 
 use refusal::Refusal;
+use rule_file::MAX_BYTES;
 use setting::{ALLOWANCE, MOST_OUTPUT, set_sheet};
 use std::io;
 use std::io::{Read, Write};
 
 /// One byte more than a file may have: so many are read, and no more, to know that there are too many.
-const MOST_BYTES: usize = 65536;
+const MOST_BYTES: usize = MAX_BYTES + 1;
 
 /// Fills the buffer from standard input, as far as the input goes.
 // A loop over an index: the library fills a slice whole or not at all, or reads into memory that can run out.

@@ -54,6 +54,7 @@ fn place_on(n: SheetSize, choice: u16) -> Result<usize, JobCause>
 }
 
 /// A fault that has no place within a list.
+// Not a `From`: most faults have a place, which a conversion would drop.
 fn fault(cause: JobCause) -> JobFault
     ensures { result ≡ record { cause = cause; place = 0 } }
 {
