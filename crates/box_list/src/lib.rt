@@ -84,6 +84,7 @@ pub fn read_boxes(text: &[u8], boxes: &mut [NameBox; BOX_LIMIT]) -> Result<usize
     let mut before = 0;
     let mut reader = RowReader::new(text);
     while let Some(row) = reader.next() {
+        // A match: with `?` over a closure that reads the place and the row the proof did not close.
         match judge(row, before) {
             Ok(b) => {
                 before = b.name;

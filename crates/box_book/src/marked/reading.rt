@@ -13,11 +13,13 @@ impl<'a> Marked<'a> {
     fn first_clashing(&self, mark: Mark, b: NameBox, end: usize) -> Option<usize>
         ensures { IsFirst (Clashes self.now.boxes.now self.now.marks.now mark b) 0 (min end (length self.now.boxes.now)) result }
     {
-        self.boxes
-            .iter()
-            .zip(self.marks)
-            .take(end)
-            .position(|(other, its)| *its == mark && other.clashes(b))
+        // By places: as a chain of zip and take this loop, which is the hot one, measured slower.
+        for k in 0..end.min(self.boxes.len()) {
+            if self.marks[k] == mark && self.boxes[k].clashes(b) {
+                return Some(k);
+            }
+        }
+        None
     }
 
     /// Whether a yes box before place `end` clashes with `b`.
