@@ -69,7 +69,7 @@ struct Tally {
     ghost fits: { yes + undecided < 2 ^ 64 },
 }
 
-/// By what a side of a rule is weighed.
+/// By what a side of a rule is weighed. What weighs is inlined, for each side on its own: readings are most of a search.
 #[derive(Drop)]
 struct Scale<'a> {
     role: Role,
@@ -77,14 +77,15 @@ struct Scale<'a> {
 }
 
 /// The mark of a choice; what is no choice of the sheet counts as no.
+// Tests, and no chain of `checked_sub` and `get`: with that, a reading takes a sixth more instructions.
+#[inline(always)]
 fn mark_at(marks: &[Mark], choice: u16) -> Mark
     ensures { result ≡ mark_at marks.now choice }
 {
-    choice
-        .checked_sub(1)
-        .and_then(|place| marks.get(place as usize))
-        .copied()
-        .unwrap_or(Mark::No)
+    if choice == 0 || choice as usize > marks.len() {
+        return Mark::No;
+    }
+    marks[choice as usize - 1]
 }
 
 /// What stands in a list over that span, as far as the list goes.
@@ -185,6 +186,7 @@ impl Count<'_> {
 
 impl Scale<'_> {
     /// What the rule comes to with this choice.
+    #[inline(always)]
     fn choice(&self, before: Pressure, choice: u16) -> Option<Pressure>
         ensures { reading_of result ≡ weigh_item self.now.role self.now.marks.now (choice_item choice) (pressure_reading before) }
     {
@@ -198,6 +200,7 @@ impl Scale<'_> {
     }
 
     /// What it comes to with these choices, each of them an item.
+    #[inline(always)]
     fn choices(&self, before: Pressure, choices: &[u16]) -> Option<Pressure>
         ensures { reading_of result ≡ weigh self.now.role self.now.marks.now (choice_items choices.now) (pressure_reading before) }
     {
@@ -207,6 +210,7 @@ impl Scale<'_> {
     }
 
     /// What it comes to with this count.
+    #[inline(always)]
     fn count(&self, before: Pressure, count: &Count) -> Option<Pressure>
         ensures { reading_of result ≡ weigh_item self.now.role self.now.marks.now (count_item count.now.lower count.now.upper count.now.choices.now) (pressure_reading before) }
     {
@@ -262,6 +266,7 @@ impl<'a> RuleBook<'a> {
     }
 
     /// What a rule comes to with the items of this side.
+    #[inline(always)]
     fn weigh_side(&self, scale: &Scale, side: Side, before: Pressure) -> Option<Pressure>
         ensures { reading_of result ≡ weigh scale.now.role scale.now.marks.now (side_items self.now.counts.now self.now.entries.now side) (pressure_reading before) }
     {
@@ -290,6 +295,7 @@ impl<'a> RuleBook<'a> {
     }
 
     /// What a rule comes to: its body is weighed, and then its head.
+    #[inline(always)]
     fn weigh_rule(&self, row: RuleRow, marks: &[Mark]) -> Option<Pressure>
         ensures { reading_of result ≡ rule_reading marks.now (rule_of self.now.counts.now self.now.entries.now row) }
     {
