@@ -121,7 +121,6 @@ impl From<Pressure> for Reading {
 }
 
 impl Tally {
-    // A loop, since it counts two things in one pass.
     fn of(marks: &[Mark], choices: &[u16]) -> Tally
         ensures yes { result.yes ≡ yeses marks.now choices.now }
         ensures undecided { result.undecided ≡ opens marks.now choices.now }
@@ -184,6 +183,7 @@ impl Count<'_> {
     }
 }
 
+// Choices and counts are weighed alike, but by what each comes to: a closure between them would need clauses of its own.
 impl Scale<'_> {
     /// What the rule comes to with this choice.
     #[inline(always)]

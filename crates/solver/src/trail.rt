@@ -52,6 +52,7 @@ impl From<u16> for Step {
     }
 }
 
+// The choice is bounded here and by no ghost field, which every step that the specs name would have to show.
 impl From<Step> for u16 {
     ghost from_gives = { λ s w. s.choice < 2 ^ 15 → w ≡ entry_of s };
 
