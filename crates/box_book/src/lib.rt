@@ -43,7 +43,7 @@ pub struct NameBox {
     pub bottom: u16,
 }
 
-/// What a place of a lent list holds before a box is put there.
+/// What a place of a lent list holds before a box is put there. A constant, since arrays are made of it.
 pub const NO_BOX: NameBox = NameBox {
     name: 0,
     left: 0,

@@ -70,7 +70,7 @@ impl<'a> Text for &'a str {
     }
 }
 
-// Numbers in decimal. One impl for each type: one over all of itoa's integers could not say how large a number is.
+// A number in decimal. Whoever writes a narrower one widens it.
 impl Text for u64 {
     ghost bytes = { decimal };
 

@@ -109,6 +109,7 @@ impl Row {
 }
 
 /// Fills the storage from a file that has no fault.
+// The lists stand as they were lent, one by one.
 pub(super) fn fill(
     bytes: &[u8],
     rules: &mut [RuleRow],

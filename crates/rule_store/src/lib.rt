@@ -16,6 +16,7 @@ use rule_file::{Extent, Fault, FileCause, FileFault, check_file};
 use rules::{CountRow, MAX_COUNTS, MAX_ENTRIES, MAX_RULES, NO_COUNT, NO_RULE, RuleRow};
 
 /// Reads a file into the storage lent, or refuses it and leaves the storage as it was.
+// Three lists and no struct of them: the caller lends each by itself, at any length.
 pub fn read_file(
     bytes: &[u8],
     rules: &mut [RuleRow],

@@ -20,6 +20,7 @@ pub const ALLOWANCE: u64 = 1_000_000;
 pub const MOST_OUTPUT: usize = 32768;
 
 /// Searches a book and prints the verdict.
+// The allowance and the list to print into are no struct: the one is a number of the caller's, the other is lent.
 pub fn print_search<B: Book>(book: &B, allowance: u64, out: &mut [u8]) -> Result<usize, JobFault>
     ensures searched { SearchPrinted (B.Book.size book.now) (B.Book.allows book.now) (B.Book.reads book.now) allowance out.old out.new result }
     ensures within { IfOk result (λ n. n ≤ length out.old) }

@@ -100,6 +100,7 @@ impl<'a> Trail<'a> {
     }
 
     /// Marks the choice of a step.
+    // Here and below `same` says that the lists are still the two that were lent, to which what is written goes back.
     pub(crate) fn push(&mut self, step: Step, mark: Mark)
         requires { (0 < step.choice) × (step.choice ≤ length self.old.marks.now) × (self.old.depth < length self.old.marks.now) }
         ensures same { SameLists self.old self.new }

@@ -46,6 +46,7 @@ fn place_of(count: usize, number: u16) -> Option<usize>
 }
 
 /// The place of a choice in a list for a sheet of `n` choices.
+// The size comes with each call, since the tables serve sheets of any size.
 fn place_on(n: SheetSize, choice: u16) -> Result<usize, JobCause>
     ensures told { result_err result ≡ choice_cause n.value choice }
     ensures place { IfOk result (λ p. (p ≡ choice - 1) × (p < 4096)) }
