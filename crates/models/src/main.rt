@@ -76,9 +76,10 @@ const COVER: Example = Example {
 fn mark_yes(marks: &mut [Mark], choice: u16)
     ensures { marks.new ≡ mark_yes choice marks.old }
 {
-    let place = choice.checked_sub(1);
-    if let Some(mark) = place.and_then(|place| marks.get_mut(usize::from(place))) {
-        *mark = Mark::Yes;
+    // By an index: what a write through `get_mut` leaves did not prove.
+    let choice = choice as usize;
+    if choice > 0 && choice <= marks.len() {
+        marks[choice - 1] = Mark::Yes;
     }
 }
 
@@ -99,7 +100,7 @@ fn allows<B: Book>(book: &B, yes: &[u16]) -> bool
 {
     let n = book.choices() as usize;
     let mut marks = [Mark::Open; MAX_CHOICES];
-    let marks = &mut marks[..n];
+    let marks = &mut marks[0..n];
     arrange(marks, yes);
     let Ok(reading) = book.read(marks) else {
         unreachable()
