@@ -40,7 +40,7 @@ impl Model for Ban {
     ghost inverse_ok = { λ b h i. record { members = sym h.1 i; count = counted_back b.count b.members h.0 h.1 i } };
 }
 
-/// A ban of no members.
+/// A ban of no members: what a place of a table holds that has no ban.
 impl Default for Ban {
     ghost is_default = { λ b. b ≡ [] };
 

@@ -62,7 +62,7 @@ fn lifts(rt: HostRuntime) -> Result<(), Fail> {
     bans.lift(2)?;
     assert_eq!(rt; bans.lift(4), Err(fault(JobCause::NoSuchBan)));
     let left = [yes(1), yes(3), yes(4)];
-    assert_eq!(rt; bans.len(), left.len());
+    assert_eq!(rt; bans.rows().len(), left.len());
     for (ban, member) in bans.rows().iter().zip(&left) {
         assert_eq!(rt; ban.members(), [*member].as_slice());
     }
