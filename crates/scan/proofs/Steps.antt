@@ -1,9 +1,7 @@
 -- What stands first in bytes of a file, as the scanner's functions take it.
-use Rattle.std.proofs.Common.{◌≡◌, ℕ, zero, suc, ◌+◌, ◌-◌, ◌*◌, ◌<◌, ◌≤◌, Bool, true, false, IsTrue, ◌↔◌, eqb, not, ◌≢◌, ◌⊎◌, inl, inr, List, [], ◌∷◌, ◌++◌, length, get_or, take, drop, Some, None, Ok, Option, sym, refl, ap, ◌∙◌, subst, add-zero, add-one, arith}
-use Rattle.std.specs.List.{All, position, position_or_len, prefix_len, slice_get}
-use Rattle.std.proofs.lemmas.List.{drop-drop, length-drop, get_or-take, take_rest}
-use Rattle.std.proofs.lemmas.List.Folds.{length-prefix_len}
-use Rattle.std.proofs.lemmas.List.Elements.{All-from_get_or}
+use Rattle.std.proofs.Common.{◌≡◌, ℕ, zero, suc, ◌+◌, ◌-◌, ◌*◌, ◌<◌, ◌≤◌, Bool, true, false, cond, eqb, not, ◌≢◌, ◌⊎◌, inl, inr, List, [], ◌∷◌, ◌++◌, length, get_or, take, drop, Some, None, Ok, Option, sym, refl, ap, ◌∙◌, subst, add-zero, add-one, arith}
+use Rattle.std.specs.List.{position, position_or_len, prefix_len, slice_get}
+use Rattle.std.proofs.lemmas.List.{drop-drop, length-drop, take_rest}
 use Rattle.std.proofs.lemmas.List.Quantifiers.{position-Some}
 use Rattle.std.proofs.lemmas.Bool.{ne_eqb, eqb-true, cases_lt, eqb-false, not-true, lt-ltb, true≢false}
 use Rattle.std.proofs.lemmas.List.Sums.{prefix_len_passes}
@@ -11,13 +9,14 @@ use Rattle.scan.specs.declared.ByteKind.{ByteKind}
 use Rattle.scan.specs.declared.ByteKind.TheVariants.{Digit, Space, Feed, Open, Close, Comma, Header, Comment, Other}
 use Rattle.scan.specs.declared.Token.{Token}
 use Rattle.scan.specs.declared.Token.TheVariants as token
+use Rattle.scan.specs.declared.scanner.Scanner.{Scanner}
 use Rattle.scan.specs.declared.scanner.Position.{Position}
 use Rattle.scan.specs.declared.scanner.Position.TheVariants.{LineStart, FirstByte, Within}
 use Rattle.scan.specs.Words.{Word, line, header, stray, number, unknown, end, cut, Placed}
 use Rattle.scan.specs.Bytes.{digit, kind, line_start, first_byte, in_line, in_comment, in_number, words, gives, goes}
-use Rattle.scan.specs.Scans.{mode, line_mode, single_token, word_of, final, Small, LineFirst, NoSpaceFirst, WordFirst}
+use Rattle.scan.specs.Scans.{mode, line_mode, is_first, single_token, word_of, final, Small, TokenFirst, LineFirst, NoSpaceFirst, WordFirst, ahead, at_start, Falls}
 use Rattle.scan.specs.Text.{IsDigit, value}
-use Rattle.scan.proofs.OfKind.{of_kind, is_digit, digit_is, digit_kind}
+use Rattle.scan.proofs.OfKind.{of_kind, is_digit, digit_is, no_digit, digit_kind}
 
 -- Lines and comments.
 
@@ -80,6 +79,7 @@ cut_in_comment bs rest p e o = (
       p.same i ∙ comment_first rest (i + p.past) e ∙ comment_cut rest (i + p.past) (no_feed rest o) ∙
       ap (λ (z : ℕ). (z, cut) ∷ []) (omega (arith, p.many))),
   tt,
+  (λ q. absurd (true≢false q)),
 )
 
 -- what begins a line that is no comment
@@ -95,7 +95,7 @@ file_ends i = refl
 pub line_found : (bs rest : List ℕ) → (b : ℕ) → PastComments bs rest → slice_get rest 0 ≡ Some b → b ≢ 99 → LineFirst bs (length bs - length rest, token.Line)
 line_found bs rest b p e m =
     let n : length bs - length rest ≡ p.past = omega (arith, p.many) in
-    rw n (omega (arith, p.many), (λ i. p.same i ∙ line_opens rest (i + p.past) b e m ∙ ap (λ (z : List ℕ). (i + p.past, line) ∷ words first_byte (i + p.past) z) p.left), tt)
+    rw n (omega (arith, p.many), (λ i. p.same i ∙ line_opens rest (i + p.past) b e m ∙ ap (λ (z : List ℕ). (i + p.past, line) ∷ words first_byte (i + p.past) z) p.left), tt, (λ q. refl))
 
 nothing_there : (xs : List ℕ) → slice_get xs 0 ≡ None → xs ≡ []
 nothing_there [] e = refl
@@ -105,7 +105,26 @@ pub end_found : (bs rest : List ℕ) → PastComments bs rest → slice_get rest
 end_found bs rest p e =
     let none : rest ≡ [] = nothing_there rest e in
     let n : length bs ≡ p.past = omega (arith, p.many, ap length none) in
-    rw n (omega (arith, p.many), (λ i. p.same i ∙ ap (words line_start (i + p.past)) none ∙ file_ends (i + p.past)), tt)
+    rw n (omega (arith, p.many), (λ i. p.same i ∙ ap (words line_start (i + p.past)) none ∙ file_ends (i + p.past)), tt, (λ q. absurd (true≢false q)))
+
+-- what a scanner answers at the start of a line
+pub line_answered :
+    (s s' : Scanner) (rest : List ℕ) (r : ℕ × Token) → s.position ≡ LineStart → rest ≡ drop s.at s.bytes.now → LineFirst rest r →
+    s'.bytes.now ≡ s.bytes.now → s'.at ≡ s.at + r.0 → (r.1 ≡ token.Line → s'.position ≡ FirstByte) →
+    TokenFirst (ahead s) s'.at r.1 s' × Falls s s' (Ok (0, r.1))
+line_answered s s' rest r p e f b a n = (
+  (
+    ap (λ (z : Position). words (mode z) s.at (drop s.at s.bytes.now)) p ∙ ap (words line_start s.at) (sym e) ∙ f.1 s.at ∙
+        ap (λ (z : ℕ). (z, word_of r.1) ∷ cond (final r.1) [] (words first_byte (s.at + r.0) (drop r.0 rest))) (sym a) ∙
+        ap (λ (z : List Placed). (s'.at, word_of r.1) ∷ z) (left_over (final r.1) refl),
+    f.2,
+  ),
+  (λ q. omega (arith, ap at_start p, ap at_start (n (f.3 q)), ap length b, f.0, ap length e, length-drop s.at s.bytes.now)),
+)
+  where
+    left_over : (x : Bool) → final r.1 ≡ x → cond (final r.1) [] (words first_byte (s.at + r.0) (drop r.0 rest)) ≡ cond (final r.1) [] (ahead s')
+    left_over true q = rw q refl
+    left_over false q = rw (q, n (f.3 q), a, b, e) (ap (words first_byte (s.at + r.0)) (drop-drop r.0 s.at s.bytes.now))
 
 -- Within a line.
 
@@ -181,9 +200,9 @@ unfolding words
 cut_in true i = refl
 cut_in false i = refl
 
-pub cut_first : (f : Bool) (bs : List ℕ) → slice_get bs 0 ≡ None → WordFirst f bs (Ok (record { token = token.Cut; length = 0; next = Within }))
-cut_first f [] e = ((λ i. cut_in f i), tt, (λ q. absurd (true≢false q)), omega arith)
-cut_first f (b ∷ t) e = cc
+pub cut_first : (f : Bool) (p : Position) (bs : List ℕ) → slice_get bs 0 ≡ None → WordFirst f bs (record { token = Ok token.Cut; length = 0; next = p })
+cut_first f p [] e = (omega arith, ((λ i. cut_in f i), tt, (λ q. absurd (true≢false q))))
+cut_first f p (b ∷ t) e = cc
 
 -- the first byte's token by itself, or that it has none
 pub single_first : (f : Bool) (bs : List ℕ) (b : ℕ) (i : ℕ) → slice_get bs 0 ≡ Some b → (o : Option (Token × Position)) → o ≡ single_token (kind b) f → Single o (kind b) (words (line_mode f) i bs) i (drop 1 bs)
@@ -213,17 +232,64 @@ number_first f (x ∷ t) b e k =
           ap (λ (v : ℕ). words (in_number i v) (i + 1) t) z ∙ rw (a, one) (number_taken t i (0 * 10 + (x - 48)) (i + 1)))),
     )
 
-pub digits_taken : (bs : List ℕ) → All IsDigit (take (prefix_len digit bs) bs)
-digits_taken bs =
-    All-from_get_or IsDigit (take (prefix_len digit bs) bs) 0
-    (λ i h.
-    let l : i < prefix_len digit bs = omega (arith, length-prefix_len digit bs) in
-    rw get_or-take (digit_is (get_or bs i 0) (prefix_len_passes digit bs i 0 l)))
+-- a number v as it is kept in r: exactly up to 65,535
+abbrev pub Kept : ℕ → ℕ → Type 0
+Kept v r = ((v ≡ r) × (v ≤ 65535)) ⊎ ((65535 < v) × (65535 < r))
 
--- digits that come after others make the value no smaller
-pub value_least : (ds : List ℕ) (v : ℕ) → v ≤ value v ds
-value_least [] v = omega arith
-value_least (d ∷ ds) v = omega (arith, value_least ds (v * 10 + (d - 48)))
+-- one digit more, where m is what is kept of the sum
+pub kept_more :
+    (v r d m : ℕ) → d ≤ 9 → (r * 10 + d ≤ 65535 → m ≡ r * 10 + d) → (65535 < r * 10 + d → 65535 < m) → Kept v r → Kept (v * 10 + d) m
+kept_more v r d m h exact large (inl k) = at (cases_lt 65535 (r * 10 + d))
+  where
+    at : (65535 < (r * 10 + d)) ⊎ ((r * 10 + d) ≤ 65535) → Kept (v * 10 + d) m
+    at (inl g) = inr (omega arith, large g)
+    at (inr g) = inl (omega (arith, exact g), omega arith)
+kept_more v r d m h exact large (inr k) = inr (omega arith, large (omega arith))
+
+-- the digits that stand first
+abbrev first_digits : List ℕ → List ℕ
+first_digits bs = take (prefix_len digit bs) bs
+
+-- what is left after digits whose value is kept in r
+pub record PastDigits (bs rest : List ℕ) (r : ℕ) : Type 0 where
+  pub many : length rest ≤ length bs
+  pub longest : length bs - length rest + prefix_len digit rest ≡ prefix_len digit bs
+  pub so_far : ℕ
+  pub same : value so_far (first_digits rest) ≡ value 0 (first_digits bs)
+  pub kept : Kept so_far r
+  pub least : r ≤ 65536
+
+pub no_digits_yet : (bs : List ℕ) → PastDigits bs bs 0
+no_digits_yet bs = record { many = omega arith; longest = omega arith; so_far = 0; same = refl; kept = inl (refl, omega arith); least = omega arith }
+
+pub digit_taken :
+    (bs rest : List ℕ) (r m : ℕ) → PastDigits bs rest r → 0 < length rest → IsDigit (get_or rest 0 0) →
+    (r * 10 + (get_or rest 0 0 - 48) ≤ 65535 → m ≡ r * 10 + (get_or rest 0 0 - 48)) → (65535 < r * 10 + (get_or rest 0 0 - 48) → 65535 < m) → m ≤ 65536 →
+    PastDigits bs (drop 1 rest) m
+digit_taken bs [] r m p h range exact large l = absurd (omega arith)
+digit_taken bs (x ∷ t) r m p h range exact large l =
+    let n : prefix_len digit (x ∷ t) ≡ suc (prefix_len digit t) = rw (is_digit x range) (omega arith) in
+    record {
+      many = omega (arith, p.many);
+      longest = omega (arith, p.many, p.longest, n);
+      so_far = p.so_far * 10 + (x - 48);
+      same = ap (λ (z : ℕ). value p.so_far (take z (x ∷ t))) (sym n) ∙ p.same;
+      kept = kept_more p.so_far r (x - 48) m (omega (arith, range.0, range.1)) exact large p.kept;
+      least = l;
+    }
+
+-- where no digit is left
+pub digits_over :
+    (bs rest : List ℕ) (r : ℕ) → PastDigits bs rest r → prefix_len digit rest ≡ 0 →
+    (length bs - length rest ≡ prefix_len digit bs) × Kept (value 0 (first_digits bs)) r
+digits_over bs rest r p n =
+    (omega (arith, p.longest, n), subst (λ (z : ℕ). Kept z r) (ap (λ (z : ℕ). value p.so_far (take z rest)) (sym n) ∙ p.same) p.kept)
+
+pub no_digit_first : (rest : List ℕ) (b : ℕ) → slice_get rest 0 ≡ Some b → (kind b ≡ Digit → ⊥) → prefix_len digit rest ≡ 0
+no_digit_first [] b e n = cc
+no_digit_first (x ∷ t) b e n =
+    let q : x ≡ b = cc in
+    rw (no_digit x (λ d. n (rw (sym q) (digit_kind x d))))
 
 -- the spaces of a line
 space_first : (bs : List ℕ) (i : ℕ) → 0 < prefix_len is_space bs → words first_byte i bs ≡ words in_line i bs
@@ -236,17 +302,26 @@ space_first (b ∷ t) i h = at (is_space b) refl h
     at false e h = absurd (let z = rw e at h in omega (arith, z))
 
 pub line_spaces :
-    (p : Position) (bs : List ℕ) (i : ℕ) (f : Bool) → p ≢ LineStart → (IsTrue f ↔ (prefix_len is_space bs ≡ 0) × (p ≡ FirstByte)) →
-    words (mode p) i bs ≡ words (line_mode f) (i + prefix_len is_space bs) (drop (prefix_len is_space bs) bs)
-line_spaces LineStart bs i f l a = absurd (l refl)
-line_spaces FirstByte bs i true l a = let z : prefix_len is_space bs ≡ 0 = (a.0 refl).0 in rw (z, add-zero)
-line_spaces FirstByte bs i false l a = at (cases_lt 0 (prefix_len is_space bs))
+    (p q : Position) (bs : List ℕ) (i : ℕ) → p ≢ LineStart → q ≡ cond (eqb (prefix_len is_space bs) 0) p Within →
+    words (mode p) i bs ≡ words (line_mode (is_first q)) (i + prefix_len is_space bs) (drop (prefix_len is_space bs) bs)
+line_spaces LineStart q bs i l e = absurd (l refl)
+line_spaces FirstByte q bs i l e = at (cases_lt 0 (prefix_len is_space bs))
   where
-    at : (0 < prefix_len is_space bs) ⊎ (prefix_len is_space bs ≤ 0) → words first_byte i bs ≡ words in_line (i + prefix_len is_space bs) (drop (prefix_len is_space bs) bs)
-    at (inl h) = space_first bs i h ∙ spaces_taken bs i
-    at (inr h) = absurd (true≢false (sym (a.1 (omega arith, refl))))
-line_spaces Within bs i true l a = let e : Within ≡ FirstByte = (a.0 refl).1 in cc
-line_spaces Within bs i false l a = spaces_taken bs i
+    at : (0 < prefix_len is_space bs) ⊎ (prefix_len is_space bs ≤ 0) → words first_byte i bs ≡ words (line_mode (is_first q)) (i + prefix_len is_space bs) (drop (prefix_len is_space bs) bs)
+    at (inl h) =
+        let w : q ≡ Within = e ∙ rw (ne_eqb (prefix_len is_space bs) 0 (λ z. omega arith)) in
+        rw w (space_first bs i h ∙ spaces_taken bs i)
+    at (inr h) =
+        let z : prefix_len is_space bs ≡ 0 = omega arith in
+        let w : q ≡ FirstByte = e ∙ rw z in
+        rw (w, z, add-zero)
+line_spaces Within q bs i l e =
+    let w : q ≡ Within = e ∙ both (eqb (prefix_len is_space bs) 0) in
+    rw w (spaces_taken bs i)
+  where
+    both : (x : Bool) → cond x Within Within ≡ Within
+    both true = refl
+    both false = refl
 
 pub no_space_first : (bs : List ℕ) → NoSpaceFirst (drop (prefix_len is_space bs) bs)
 no_space_first [] = tt
@@ -262,11 +337,11 @@ no_space (x ∷ t) b n e k = let q : x ≡ b = cc in n (q ∙ of_kind b Space k)
 
 -- what is ahead of a scanner in a line, past n spaces
 pub ahead_in_line :
-    (bs rest : List ℕ) (at n : ℕ) (p : Position) (f : Bool) → rest ≡ drop at bs → n ≡ prefix_len is_space rest → p ≢ LineStart → (IsTrue f ↔ (n ≡ 0) × (p ≡ FirstByte)) →
-    words (mode p) at (drop at bs) ≡ words (line_mode f) (at + n) (take (length rest - n) (drop n rest))
-ahead_in_line bs rest at n p f r q l a =
-    ap (words (mode p) at) (sym r) ∙ line_spaces p rest at f l (subst (λ (m : ℕ). IsTrue f ↔ (m ≡ 0) × (p ≡ FirstByte)) q a) ∙
-    ap (λ (m : ℕ). words (line_mode f) (at + m) (drop m rest)) (sym q) ∙ ap (words (line_mode f) (at + n)) (sym (take_rest rest n))
+    (bs rest : List ℕ) (at n : ℕ) (p q : Position) → rest ≡ drop at bs → n ≡ prefix_len is_space rest → p ≢ LineStart → q ≡ cond (eqb n 0) p Within →
+    words (mode p) at (drop at bs) ≡ words (line_mode (is_first q)) (at + n) (take (length rest - n) (drop n rest))
+ahead_in_line bs rest at n p q r k l a =
+    ap (words (mode p) at) (sym r) ∙ line_spaces p q rest at l (subst (λ (m : ℕ). q ≡ cond (eqb m 0) p Within) k a) ∙
+    ap (λ (m : ℕ). words (line_mode (is_first q)) (at + m) (drop m rest)) (sym k) ∙ ap (words (line_mode (is_first q)) (at + n)) (sym (take_rest rest n))
 
 pub after_word : (bs rest : List ℕ) (at n k : ℕ) → rest ≡ drop at bs → drop k (take (length rest - n) (drop n rest)) ≡ drop (at + n + k) bs
 after_word bs rest at n k r = ap (drop k) (take_rest rest n ∙ ap (drop n) r ∙ drop-drop n at bs) ∙ drop-drop k (at + n) bs

@@ -103,21 +103,31 @@ abbrev pub line_mode : Bool → Mode
 line_mode true = first_byte
 line_mode false = in_line
 
--- what the line begins with that comes after n bytes of comments, and what it gives then
+-- what the line begins with that comes after n bytes of comments, and what it gives then; only `Line` leaves more to read
 abbrev pub LineFirst : List ℕ → ℕ × Token → Type 0
 LineFirst bs r =
-    (r.0 ≤ length bs) × ((i : ℕ) → words line_start i bs ≡ (i + r.0, word_of r.1) ∷ cond (final r.1) [] (words first_byte (i + r.0) (drop r.0 bs))) × Small r.1
+    (r.0 ≤ length bs) × ((i : ℕ) → words line_start i bs ≡ (i + r.0, word_of r.1) ∷ cond (final r.1) [] (words first_byte (i + r.0) (drop r.0 bs))) × Small r.1 ×
+    (final r.1 ≡ false → r.1 ≡ Line)
 
 -- the first byte, if there is one, is no space
 abbrev pub NoSpaceFirst : List ℕ → Type 0
 NoSpaceFirst = First (λ b. b ≢ 32)
 
+-- whether a byte is its line's first, by the position before it
+abbrev pub is_first : Position → Bool
+is_first LineStart = false
+is_first FirstByte = true
+is_first Within = false
+
+-- what a token, or a refusal, says of bytes of a line that it is found in, where it takes n of them
+abbrev pub WordIs : Bool → List ℕ → Result Token ScanCause → ℕ → Position → Type 0
+WordIs first bs (Ok t) n p =
+    ((i : ℕ) → words (line_mode first) i bs ≡ (i, word_of t) ∷ cond (final t) [] (words (mode p) (i + n) (drop n bs))) × Small t × (final t ≡ false → 0 < n)
+WordIs first bs (Err c) n p = (i : ℕ) → (w : Word) × (ws : List Placed) × (words (line_mode first) i bs ≡ (i, w) ∷ ws) × Refused c w
+
 -- bytes of a line, at any place, begin with a token, or with a word that is refused
-abbrev pub WordFirst : Bool → List ℕ → Result Found ScanCause → Type 0
-WordFirst first bs (Ok f) =
-    ((i : ℕ) → words (line_mode first) i bs ≡ (i, word_of f.token) ∷ cond (final f.token) [] (words (mode f.next) (i + f.length) (drop f.length bs))) ×
-    Small f.token × (final f.token ≡ false → 0 < f.length) × (f.length ≤ length bs)
-WordFirst first bs (Err c) = (i : ℕ) → (w : Word) × (ws : List Placed) × (words (line_mode first) i bs ≡ (i, w) ∷ ws) × Refused c w
+abbrev pub WordFirst : Bool → List ℕ → Found → Type 0
+WordFirst first bs f = (f.length ≤ length bs) × WordIs first bs f.token f.length f.next
 
 -- the token that a byte by itself is, with the position after it
 abbrev pub single_token : ByteKind → Bool → Option (Token × Position)

@@ -1,9 +1,9 @@
-ghost use Rattle.std.specs.Prelude.{◌≡◌, ◌<◌, ◌≤◌, ◌==◌, ◌↔◌, IsTrue, MatchOption, drop, length};
-ghost use Rattle.std.specs.List.{All, position, prefix_len};
-ghost use Rattle.scan.specs.declared.scanner.Position.TheVariants.{LineStart, FirstByte};
+ghost use Rattle.std.specs.Prelude.{◌≡◌, ◌<◌, ◌≤◌, ◌==◌, cond, MatchOption, take, drop, length};
+ghost use Rattle.std.specs.List.{position, prefix_len};
+ghost use Rattle.scan.specs.declared.scanner.Position.TheVariants.{LineStart, Within};
 ghost use Rattle.scan.specs.Bytes.{digit, file_words};
-ghost use Rattle.scan.specs.Scans.{ahead, Answers, Falls, LineFirst, WordFirst, NoSpaceFirst, single_token};
-ghost use Rattle.scan.specs.Text.{IsDigit, value, EveryFileReads, FilesReadOnce};
+ghost use Rattle.scan.specs.Scans.{ahead, Answers, Falls, LineFirst, WordFirst, NoSpaceFirst, is_first, single_token};
+ghost use Rattle.scan.specs.Text.{value, EveryFileReads, FilesReadOnce};
 
 use super::super::{ByteKind, ScanCause, ScanFault, Token, kind_of};
 use super::{Position, Scanner};
@@ -33,18 +33,20 @@ impl<'a> Scanner<'a> {
         if self.position == Position::LineStart {
             let (comments, token) = line_start(rest);
             self.at += comments;
-            self.position = Position::FirstByte;
+            if let Token::Line = token {
+                self.position = Position::FirstByte;
+            }
             return Ok((self.at, token));
         }
-        let spaces = spaces(rest);
+        let (spaces, position) = past_spaces(rest, self.position);
         let place = self.at + spaces;
-        let word = match word(&rest[spaces..], is_first(self.position, spaces)) {
-            Ok(word) => word,
-            Err(cause) => return Err(ScanFault { cause, place }),
-        };
-        self.at = place + word.length;
-        self.position = word.next;
-        Ok((place, word.token))
+        let found = word(&rest[spaces..], position);
+        self.at = place + found.length;
+        self.position = found.next;
+        match found.token {
+            Ok(token) => Ok((place, token)),
+            Err(cause) => Err(ScanFault { cause, place }),
+        }
     }
 
     // The bytes that are not taken yet.
@@ -55,10 +57,10 @@ impl<'a> Scanner<'a> {
     }
 }
 
-/// A token at the first of some bytes, how many of them it takes, and the position after them.
+/// A token at the first of some bytes, or why it is refused, how many of them it takes, and the position after them.
 #[derive(Clone, Copy)]
 struct Found {
-    token: Token,
+    token: Result<Token, ScanCause>,
     length: usize,
     next: Position,
 }
@@ -69,9 +71,9 @@ fn line_start(bytes: &[u8]) -> (usize, Token)
 {
     let mut rest = bytes;
     while let Some(first) = rest.first() {
-        if *first != b'c' {
+        let ByteKind::Comment = kind_of(*first) else {
             return (bytes.len() - rest.len(), Token::Line);
-        }
+        };
         let Some(feed) = first_feed(rest) else {
             return (bytes.len(), Token::Cut);
         };
@@ -86,6 +88,18 @@ fn first_feed(bytes: &[u8]) -> Option<usize>
     bytes.iter().position(|b| *b == b'\n')
 }
 
+// How many spaces stand first, and the position after them.
+fn past_spaces(bytes: &[u8], position: Position) -> (usize, Position)
+    ensures longest { result.0 ≡ prefix_len (λ b. b == 32) bytes.now }
+    ensures within { result.0 ≤ length bytes.now }
+    ensures next { result.1 ≡ cond (result.0 == 0) position Within }
+{
+    let [b' ', after @ ..] = bytes else {
+        return (0, position);
+    };
+    (1 + spaces(after), Position::Within)
+}
+
 // How many spaces stand first.
 fn spaces(bytes: &[u8]) -> usize
     ensures longest { result ≡ prefix_len (λ b. b == 32) bytes.now }
@@ -94,64 +108,67 @@ fn spaces(bytes: &[u8]) -> usize
     bytes.iter().take_while(|b| **b == b' ').count()
 }
 
-// Whether a byte is its line's first, from the position before so many spaces.
-fn is_first(position: Position, spaces: usize) -> bool
-    ensures { IsTrue result ↔ (spaces ≡ 0) × (position ≡ FirstByte) }
+// Whether a byte is its line's first.
+fn is_first(position: Position) -> bool
+    ensures { result ≡ is_first position }
 {
-    spaces == 0 && position == Position::FirstByte
+    matches!(position, Position::FirstByte)
 }
 
-// The token that stands first in the rest of a line; `is_first` says whether this is the whole line.
-fn word(bytes: &[u8], is_first: bool) -> Result<Found, ScanCause>
+// The token that stands first in the rest of a line.
+fn word(bytes: &[u8], position: Position) -> Found
     requires { NoSpaceFirst bytes.now }
-    ensures { WordFirst is_first bytes.now result }
+    ensures { WordFirst (is_first position) bytes.now result }
 {
     let Some(first) = bytes.first() else {
-        return Ok(Found {
-            token: Token::Cut,
+        return Found {
+            token: Ok(Token::Cut),
             length: 0,
-            next: Position::Within,
-        });
+            next: position,
+        };
     };
     let kind = kind_of(*first);
-    if kind == ByteKind::Digit {
-        let length = digits(bytes);
-        let Some(value) = number(&bytes[..length]) else {
-            return Err(ScanCause::NumberTooLarge);
+    if let ByteKind::Digit = kind {
+        let (length, value) = number(bytes);
+        let Some(value) = value else {
+            return Found {
+                token: Err(ScanCause::NumberTooLarge),
+                length,
+                next: Position::Within,
+            };
         };
-        return Ok(Found {
-            token: Token::Number(value),
+        return Found {
+            token: Ok(Token::Number(value)),
             length,
             next: Position::Within,
-        });
+        };
     }
-    let Some((token, next)) = single(kind, is_first) else {
-        return Err(ScanCause::UnknownByte);
+    let Some((token, next)) = single(kind, is_first(position)) else {
+        return Found {
+            token: Err(ScanCause::UnknownByte),
+            length: 0,
+            next: position,
+        };
     };
-    Ok(Found {
-        token,
+    Found {
+        token: Ok(token),
         length: 1,
         next,
-    })
-}
-
-// How many digits stand first.
-fn digits(bytes: &[u8]) -> usize
-    ensures { result ≡ prefix_len digit bytes.now }
-{
-    bytes.iter().take_while(|b| b.is_ascii_digit()).count()
-}
-
-// The value of digits, unless it is above 65,535.
-fn number(digits: &[u8]) -> Option<u16>
-    requires { All IsDigit digits.now }
-    ensures { MatchOption result (65535 < value 0 digits.now) (λ v. v ≡ value 0 digits.now) }
-{
-    let mut value: u16 = 0;
-    for d in digits {
-        value = value.checked_mul(10)?.checked_add(u16::from(*d - b'0'))?;
     }
-    Some(value)
+}
+
+// How many digits stand first, and their value, unless it is above 65,535.
+fn number(bytes: &[u8]) -> (usize, Option<u16>)
+    ensures longest { result.0 ≡ prefix_len digit bytes.now }
+    ensures value { MatchOption result.1 (65535 < value 0 (take result.0 bytes.now)) (λ v. v ≡ value 0 (take result.0 bytes.now)) }
+{
+    let mut rest = bytes;
+    let mut value: u32 = 0;
+    while let [digit @ b'0'..=b'9', after @ ..] = rest {
+        value = (value * 10 + u32::from(*digit - b'0')).min(65536);
+        rest = after;
+    }
+    (bytes.len() - rest.len(), u16::try_from(value).ok())
 }
 
 // The token that a byte by itself is, with the position after it.
