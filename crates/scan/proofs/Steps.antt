@@ -16,7 +16,7 @@ use Rattle.scan.specs.Words.{Word, line, header, stray, number, unknown, end, cu
 use Rattle.scan.specs.Bytes.{digit, kind, line_start, first_byte, in_line, in_comment, in_number, words, gives, goes}
 use Rattle.scan.specs.Scans.{mode, line_mode, is_first, single_token, word_of, final, Small, TokenFirst, LineFirst, NoSpaceFirst, WordFirst, ahead, at_start, Falls}
 use Rattle.scan.specs.Text.{IsDigit, value}
-use Rattle.scan.proofs.OfKind.{of_kind, is_digit, digit_is, no_digit, digit_kind}
+use Rattle.scan.proofs.OfKind.{of_kind, is_digit, digit_is, digit_kind}
 
 -- Lines and comments.
 
@@ -109,14 +109,14 @@ end_found bs rest p e =
 
 -- what a scanner answers at the start of a line
 pub line_answered :
-    (s s' : Scanner) (rest : List ℕ) (r : ℕ × Token) → s.position ≡ LineStart → rest ≡ drop s.at s.bytes.now → LineFirst rest r →
-    s'.bytes.now ≡ s.bytes.now → s'.at ≡ s.at + r.0 → (r.1 ≡ token.Line → s'.position ≡ FirstByte) →
-    TokenFirst (ahead s) s'.at r.1 s' × Falls s s' (Ok (0, r.1))
-line_answered s s' rest r p e f b a n = (
+    (s s' : Scanner) (rest : List ℕ) (r : ℕ × Token) (i : ℕ) → s.position ≡ LineStart → rest ≡ drop s.at s.bytes.now → LineFirst rest r →
+    s'.bytes.now ≡ s.bytes.now → s'.at ≡ s.at + r.0 → (r.1 ≡ token.Line → s'.position ≡ FirstByte) → i ≡ s'.at →
+    TokenFirst (ahead s) i r.1 s' × Falls s s' (Ok (i, r.1))
+line_answered s s' rest r i p e f b a n h = (
   (
     ap (λ (z : Position). words (mode z) s.at (drop s.at s.bytes.now)) p ∙ ap (words line_start s.at) (sym e) ∙ f.1 s.at ∙
-        ap (λ (z : ℕ). (z, word_of r.1) ∷ cond (final r.1) [] (words first_byte (s.at + r.0) (drop r.0 rest))) (sym a) ∙
-        ap (λ (z : List Placed). (s'.at, word_of r.1) ∷ z) (left_over (final r.1) refl),
+        ap (λ (z : ℕ). (z, word_of r.1) ∷ cond (final r.1) [] (words first_byte (s.at + r.0) (drop r.0 rest))) (sym a ∙ sym h) ∙
+        ap (λ (z : List Placed). (i, word_of r.1) ∷ z) (left_over (final r.1) refl),
     f.2,
   ),
   (λ q. omega (arith, ap at_start p, ap at_start (n (f.3 q)), ap length b, f.0, ap length e, length-drop s.at s.bytes.now)),
@@ -277,19 +277,6 @@ digit_taken bs (x ∷ t) r m p h range exact large l =
       kept = kept_more p.so_far r (x - 48) m (omega (arith, range.0, range.1)) exact large p.kept;
       least = l;
     }
-
--- where no digit is left
-pub digits_over :
-    (bs rest : List ℕ) (r : ℕ) → PastDigits bs rest r → prefix_len digit rest ≡ 0 →
-    (length bs - length rest ≡ prefix_len digit bs) × Kept (value 0 (first_digits bs)) r
-digits_over bs rest r p n =
-    (omega (arith, p.longest, n), subst (λ (z : ℕ). Kept z r) (ap (λ (z : ℕ). value p.so_far (take z rest)) (sym n) ∙ p.same) p.kept)
-
-pub no_digit_first : (rest : List ℕ) (b : ℕ) → slice_get rest 0 ≡ Some b → (kind b ≡ Digit → ⊥) → prefix_len digit rest ≡ 0
-no_digit_first [] b e n = cc
-no_digit_first (x ∷ t) b e n =
-    let q : x ≡ b = cc in
-    rw (no_digit x (λ d. n (rw (sym q) (digit_kind x d))))
 
 -- the spaces of a line
 space_first : (bs : List ℕ) (i : ℕ) → 0 < prefix_len is_space bs → words first_byte i bs ≡ words in_line i bs

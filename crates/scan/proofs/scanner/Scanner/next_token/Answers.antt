@@ -1,4 +1,4 @@
-use Rattle.std.proofs.Common.{◌≡◌, ◌≢◌, ℕ, ◌+◌, ◌-◌, length, take, drop, List, [], ◌∷◌, cond, rules, sym, ap, subst, Result, ◌∙◌}
+use Rattle.std.proofs.Common.{◌≡◌, ◌≢◌, ℕ, ◌+◌, ◌-◌, length, take, drop, List, [], ◌∷◌, cond, rules, sym, refl, ap, subst, Result, ◌∙◌, arith}
 use Rattle.std.proofs.lemmas.Bool.{true≢false}
 use Rattle.std.proofs.lemmas.List.{take_rest}
 use denote.Enum.Bare.{sameb, same_true}
@@ -18,11 +18,11 @@ returns-then-eq-clause-answers c =
     let start : s.position ≡ LineStart = same_true the_type (search rules) _ _ (sym c.if-eq.ensures) in
     elim c.match-token.branch [
       | in-Line w ↦
-          (line_answered s c.match-token.self c.rest-rest.result.now c.line_start-comments.result start c.rest-rest.ensures c.line_start-comments.ensures
-          (ap (λ z. z.bytes.now) w.self-is) (ap (λ z. z.at) w.self-is) (λ _. ap (λ z. z.position) w.self-is)).0
+          (line_answered s c.match-token.self c.rest-rest.result.now c.line_start-comments.result _ start c.rest-rest.ensures c.line_start-comments.ensures
+          (ap (λ z. z.bytes.now) w.self-is) (ap (λ z. z.at) w.self-is) (λ _. ap (λ z. z.position) w.self-is) (omega arith)).0
       | in_default w ↦
-          (line_answered s c.match-token.self c.rest-rest.result.now c.line_start-comments.result start c.rest-rest.ensures c.line_start-comments.ensures
-          (ap (λ z. z.bytes.now) w.self-is) (ap (λ z. z.at) w.self-is) (λ e. absurd (w.in_default.not-Line e))).0
+          (line_answered s c.match-token.self c.rest-rest.result.now c.line_start-comments.result _ start c.rest-rest.ensures c.line_start-comments.ensures
+          (ap (λ z. z.bytes.now) w.self-is) (ap (λ z. z.at) w.self-is) (λ e. absurd (w.in_default.not-Line e)) (omega arith)).0
     ]
 
 pub returns-then-eq-clause-falls : goal.returns-then-eq-clause-falls
@@ -31,11 +31,11 @@ returns-then-eq-clause-falls c =
     let start : s.position ≡ LineStart = same_true the_type (search rules) _ _ (sym c.if-eq.ensures) in
     elim c.match-token.branch [
       | in-Line w ↦
-          (line_answered s c.match-token.self c.rest-rest.result.now c.line_start-comments.result start c.rest-rest.ensures c.line_start-comments.ensures
-          (ap (λ z. z.bytes.now) w.self-is) (ap (λ z. z.at) w.self-is) (λ _. ap (λ z. z.position) w.self-is)).1
+          (line_answered s c.match-token.self c.rest-rest.result.now c.line_start-comments.result c.match-token.self.at start c.rest-rest.ensures c.line_start-comments.ensures
+          (ap (λ z. z.bytes.now) w.self-is) (ap (λ z. z.at) w.self-is) (λ _. ap (λ z. z.position) w.self-is) refl).1
       | in_default w ↦
-          (line_answered s c.match-token.self c.rest-rest.result.now c.line_start-comments.result start c.rest-rest.ensures c.line_start-comments.ensures
-          (ap (λ z. z.bytes.now) w.self-is) (ap (λ z. z.at) w.self-is) (λ e. absurd (w.in_default.not-Line e))).1
+          (line_answered s c.match-token.self c.rest-rest.result.now c.line_start-comments.result c.match-token.self.at start c.rest-rest.ensures c.line_start-comments.ensures
+          (ap (λ z. z.bytes.now) w.self-is) (ap (λ z. z.at) w.self-is) (λ e. absurd (w.in_default.not-Line e)) refl).1
     ]
 
 pub word-found-requires : goal.word-found-requires
