@@ -66,7 +66,7 @@ no_marks : (f : Reading) (c : ℕ) (ps : List Mark) → read_on f c ps [] ≡ f
 no_marks f c [] = or_quiet f
 no_marks f c (p ∷ ps) = or_quiet f
 
-read_all : (ps ms : List Mark) (f : Reading) (c i : ℕ) → min (length ps) (length ms) ≤ i → read_on f c (drop i ps) (drop i ms) ≡ f
+pub read_all : (ps ms : List Mark) (f : Reading) (c i : ℕ) → min (length ps) (length ms) ≤ i → read_on f c (drop i ps) (drop i ms) ≡ f
 read_all ps ms f c i h =
     elim (cases_lt i (length ps)) [
       | inl l ↦ let m : length ms ≤ i = omega arith in rw (drop_all i ms) (no_marks f c (drop i ps))

@@ -20,12 +20,12 @@ by_cause true b i r = refl
 by_cause false true i r = refl
 by_cause false false i r = refl
 
-pub fault_found : (n p i : ℕ) (bs : List Member) (d : Member) → i < length bs → (c : JobCause) → Some c ≡ member_cause n p (get_or bs i d).choice → member_fault n p i (drop i bs) None ≡ refused c i
-fault_found n p i bs d h c e =
-    rw (drop_more bs i d, by_cause (outside n (get_or bs i d).choice) (leb (get_or bs i d).choice p) i (member_fault n (get_or bs i d).choice (suc i) (drop (i + 1) bs) None), ← e)
+pub fault_found : (n p i : ℕ) (bs : List Member) (rest : Option (At JobCause)) (d : Member) → i < length bs → (c : JobCause) → Some c ≡ member_cause n p (get_or bs i d).choice → member_fault n p i (drop i bs) rest ≡ refused c i
+fault_found n p i bs rest d h c e =
+    rw (drop_more bs i d, by_cause (outside n (get_or bs i d).choice) (leb (get_or bs i d).choice p) i (member_fault n (get_or bs i d).choice (suc i) (drop (i + 1) bs) rest), ← e)
 
-pub counted : (n : ℕ) (bs : List Member) → eqb (length bs) 0 ≡ false → length bs ≤ 8 → ban_fault n 0 bs ≡ member_fault n 0 0 bs None
-counted n bs e h = rw (e, le-ltb 8 (length bs) h)
+pub counted : (n count : ℕ) (bs : List Member) → eqb (length bs) 0 ≡ false → length bs ≤ 8 → ban_fault n count bs ≡ member_fault n 0 0 bs (cond (leb 64 count) (refused BansFull 0) None)
+counted n count bs e h = rw (e, le-ltb 8 (length bs) h)
 
 -- what is said of sound members comes last
 later : (n p i : ℕ) (bs : List Member) (rest : Option (At JobCause)) → member_fault n p i bs rest ≡ option_or (member_fault n p i bs None) rest

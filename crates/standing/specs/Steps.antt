@@ -49,3 +49,7 @@ is_there ms m = option_map_or (answers m.answer) (mark_at ms m.choice) false
 -- a member's choice is open
 abbrev pub is_open : List Mark → Member → Bool
 is_open ms m = option_map_or open_mark (mark_at ms m.choice) false
+
+-- the member, where it is not there, with whether its choice is open
+abbrev pub lack : List Mark → Member → Option (Member × Bool)
+lack ms m = cond (is_there ms m) None (Some (m, is_open ms m))

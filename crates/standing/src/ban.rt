@@ -2,7 +2,7 @@
 ghost use Rattle.std.specs.Prelude.{◌≡◌, ◌≤◌, [], length, IfOk};
 ghost use Rattle.std.specs.Result.{result_err};
 ghost use Rattle.standing.specs.Readings.{ban_reading};
-ghost use Rattle.standing.specs.Steps.{member_cause, mark_at, is_there, is_open};
+ghost use Rattle.standing.specs.Steps.{member_cause, mark_at, lack};
 ghost use Rattle.standing.specs.Table.{ban_fault};
 
 use super::{MAX_MEMBERS, Member, fault, place_of, place_on};
@@ -98,11 +98,11 @@ impl Ban {
         ensures { result ≡ ban_reading marks.now self.now }
     {
         let members = self.members();
-        let mut lacking = members.iter().filter(|member| !member.is_there(marks));
-        let Some(member) = lacking.next() else {
+        let mut lacking = members.iter().filter_map(|member| member.lack(marks));
+        let Some((member, is_open)) = lacking.next() else {
             return Reading::Broken;
         };
-        if member.is_open(marks) && lacking.next().is_none() {
+        if is_open && lacking.next().is_none() {
             Reading::Forced(member.choice, !member.answer)
         } else {
             Reading::Quiet
@@ -129,17 +129,14 @@ impl Member {
         place_of(marks.len(), self.choice).map(|place| marks[place])
     }
 
-    /// Whether the member's choice has its answer.
-    fn is_there(self, marks: &[Mark]) -> bool
-        ensures { result ≡ is_there marks.now self }
+    /// The member, where its choice has not its answer, and whether that choice is open.
+    // Both by one look at the mark: readings are the hot loop.
+    fn lack(self, marks: &[Mark]) -> Option<(Member, bool)>
+        ensures { result ≡ lack marks.now self }
     {
-        self.mark(marks) == Some(self.answer.into())
-    }
-
-    /// Whether the member's choice is open.
-    fn is_open(self, marks: &[Mark]) -> bool
-        ensures { result ≡ is_open marks.now self }
-    {
-        self.mark(marks).is_some_and(Mark::is_open)
+        match self.mark(marks) {
+            Some(mark) if mark == self.answer.into() => None,
+            mark => Some((self, mark == Some(Mark::Open))),
+        }
     }
 }

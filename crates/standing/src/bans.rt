@@ -18,12 +18,14 @@ pub struct Bans {
 }
 
 impl Model for Bans {
-    ghost use Rattle.std.specs.Prelude.{List};
+    ghost use Rattle.std.specs.Prelude.{List, ◌≤◌, length};
     ghost use Rattle.standing.specs.declared.Member.{Member};
 
     ghost Value = { List (List Member) };
 
     ghost view = { λ b. b.rows.items };
+
+    ghost invariant = { λ b. length b.rows.items ≤ 64 };
 }
 
 impl Bans {

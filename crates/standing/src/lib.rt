@@ -40,8 +40,9 @@ pub struct Member {
 fn place_of(count: usize, number: u16) -> Option<usize>
     ensures { result ≡ place_of count number }
 {
-    usize::from(number)
+    number
         .checked_sub(1)
+        .map(usize::from)
         .filter(|place| *place < count)
 }
 
