@@ -41,7 +41,7 @@ pub fn put(out: &mut [u8], at: usize, text: &[u8]) -> Option<usize>
 }
 
 /// Writes the decimal digits of a number, in the same way.
-// Numbers of one and two digits are the most of a file, so they are laid without a buffer.
+// Most numbers have one or two digits, so these are laid without a buffer, and inlined.
 #[inline]
 pub fn put_number(out: &mut [u8], at: usize, number: u64) -> Option<usize>
     ensures text { Wrote out.old at (decimal number) out.new result }
@@ -53,6 +53,15 @@ pub fn put_number(out: &mut [u8], at: usize, number: u64) -> Option<usize>
     if number < 100 {
         return put(out, at, &[b'0' + (number / 10) as u8, b'0' + (number % 10) as u8]);
     }
+    put_long(out, at, number)
+}
+
+/// Writes the decimal digits of a number of any length.
+#[inline(never)]
+fn put_long(out: &mut [u8], at: usize, number: u64) -> Option<usize>
+    ensures text { Wrote out.old at (decimal number) out.new result }
+    ensures refused { Unwritten out.old out.new result }
+{
     put(out, at, Buffer::new().format(number).as_bytes())
 }
 
