@@ -1,7 +1,7 @@
 -- Where the bytes of a row are cut into cells.
-use Rattle.std.proofs.Common.{◌≡◌, ℕ, zero, suc, ◌<◌, List, [], ◌∷◌, length, get_or, take, drop, refl, ap, ◌∙◌, arith}
-use Rattle.std.proofs.lemmas.Bool.{eq-eqb, ne_eqb}
-use Rattle.box_text.specs.Rows.{onto, cells}
+use Rattle.std.proofs.Common.{◌≡◌, ℕ, zero, suc, ◌<◌, true, false, eqb, ◌⊎◌, List, [], ◌∷◌, length, get_or, take, drop, is_some, Some, None, Option, sym, refl, ap, ◌∙◌, inl, inr, arith, Bor}
+use Rattle.std.proofs.lemmas.Bool.{cases_Bool, eq-eqb, ne_eqb, true≢false}
+use Rattle.box_text.specs.Rows.{onto, cells, cells_of}
 
 -- a byte that is no comma goes to the first cell
 cell_on : (b : ℕ) (bs : List ℕ) → (b ≡ 44 → ⊥) → cells (b ∷ bs) ≡ onto b (cells bs)
@@ -20,3 +20,21 @@ cut_cell (suc n) (b ∷ bs) h before found =
 pub last_cell : (bs : List ℕ) → ((k : ℕ) → k < length bs → get_or bs k 0 ≡ 44 → ⊥) → cells bs ≡ bs ∷ []
 last_cell [] before = refl
 last_cell (b ∷ bs) before = cell_on b bs (before 0 (omega arith)) ∙ ap (onto b) (last_cell bs (λ k l. before (suc k) (omega arith)))
+
+onto_some : (b : ℕ) (ps : List (List ℕ)) → 0 < length (onto b ps)
+onto_some b [] = omega arith
+onto_some b (p ∷ ps) = omega arith
+
+-- a row has a cell
+pub some_cell : (bs : List ℕ) → 0 < length (cells bs)
+some_cell [] = omega arith
+some_cell (b ∷ bs) = at (cases_Bool (eqb b 44))
+  where
+    at : (eqb b 44 ≡ true) ⊎ (eqb b 44 ≡ false) → 0 < length (cells (b ∷ bs))
+    at (inl e) = rw e (omega arith)
+    at (inr e) = rw e (onto_some b (cells bs))
+
+-- what stands after a comma has a cell too
+pub some_left : (o : Option (Bor (List ℕ))) → is_some o ≡ true → 0 < length (cells_of o)
+some_left None e = absurd (true≢false (sym e))
+some_left (Some x) e = some_cell x.now

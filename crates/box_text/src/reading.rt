@@ -60,7 +60,8 @@ pub fn row_of(row: &[u8]) -> Result<NameBox, CellCause>
     let top = cells.next_number().ok_or(edge)?;
     let right = cells.next_number().ok_or(edge)?;
     let bottom = cells.next_number().ok_or(edge)?;
-    if cells.next().is_some() {
+    // Whether a sixth cell is there, which is not gone over.
+    if cells.rest.is_some() {
         return Err(edge);
     }
     Ok(NameBox {

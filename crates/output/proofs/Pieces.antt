@@ -13,7 +13,7 @@ sets_append (x ∷ xs) ys l i =
     sets_append xs ys (set l i x) (suc i) ∙ ap (λ (k : ℕ). sets (sets (set l i x) (suc i) xs) k ys) (suc-add i (length xs) ∙ sym (add-suc i (length xs)))
 
 -- past the end of the list nothing is written
-sets_past : (xs l : List ℕ) (i : ℕ) → length l ≤ i → sets l i xs ≡ l
+pub sets_past : (xs l : List ℕ) (i : ℕ) → length l ≤ i → sets l i xs ≡ l
 sets_past [] l i h = refl
 sets_past (x ∷ xs) l i h = rw (set_past l i x h) (sets_past xs l (suc i) (omega arith))
 

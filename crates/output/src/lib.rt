@@ -25,18 +25,40 @@ pub trait Text {
 }
 
 /// Writes bytes as texts are written.
+#[inline]
 pub fn put(out: &mut [u8], at: usize, text: &[u8]) -> Option<usize>
     ensures text { Wrote out.old at text.now out.new result }
     ensures refused { Unwritten out.old out.new result }
 {
     let end = at.checked_add(text.len())?;
-    let (start, stop) = (at.min(out.len()), end.min(out.len()));
-    out[start..stop].copy_from_slice(&text[..stop - start]);
+    if end <= out.len() {
+        out[at..end].copy_from_slice(text);
+    } else if at < out.len() {
+        let room = out.len() - at;
+        out[at..].copy_from_slice(&text[..room]);
+    }
     Some(end)
 }
 
 /// Writes the decimal digits of a number, in the same way.
+// Most numbers have one or two digits, so these are laid without a buffer, and inlined.
+#[inline]
 pub fn put_number(out: &mut [u8], at: usize, number: u64) -> Option<usize>
+    ensures text { Wrote out.old at (decimal number) out.new result }
+    ensures refused { Unwritten out.old out.new result }
+{
+    if number < 10 {
+        return put(out, at, &[b'0' + number as u8]);
+    }
+    if number < 100 {
+        return put(out, at, &[b'0' + (number / 10) as u8, b'0' + (number % 10) as u8]);
+    }
+    put_long(out, at, number)
+}
+
+/// Writes the decimal digits of a number of any length.
+#[inline(never)]
+fn put_long(out: &mut [u8], at: usize, number: u64) -> Option<usize>
     ensures text { Wrote out.old at (decimal number) out.new result }
     ensures refused { Unwritten out.old out.new result }
 {

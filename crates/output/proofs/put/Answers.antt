@@ -1,12 +1,23 @@
-use Rattle.std.proofs.Common.{◌≡◌, ◌+◌, length, arith}
+use Rattle.std.proofs.Common.{◌≡◌, ◌+◌, ◌∙◌, length, sym, arith}
+use Rattle.std.proofs.lemmas.List.{take_all}
 use Rattle.output.specs.Writing.{laid, beyond}
-use Rattle.output.proofs.Pieces.{laid_there}
+use Rattle.output.proofs.Pieces.{laid_there, sets_past}
 use Rattle.output.proofs.put.Goals as goal
 
 pub returns-in_err-end-clause-text : goal.returns-in_err-end-clause-text
 returns-in_err-end-clause-text c = rw c.from_residual.ensures (beyond (omega (arith, c.in_err-end.ensures)))
 
-pub returns-clause-text : goal.returns-clause-text
-returns-clause-text c =
+pub returns-then-end-out-clause-text : goal.returns-then-end-out-clause-text
+returns-then-end-out-clause-text c =
     let long : c.in_ok-end.end ≡ c.args.at + length c.args.text.now = omega (arith, c.in_ok-end.ensures) in
-    laid c.in_ok-end.end (laid_there c.args.out.now c.args.text.now c.copy_from_slice.new.self c.args.at c.min-start.result c.min-stop.result c.min-start.ensures (omega arith) c.copy_from_slice.ensures.after) (omega (arith, c.in_ok-end.ensures))
+    laid c.in_ok-end.end (laid_there c.args.out.now c.args.text.now c.copy_from_slice.new.self c.args.at _ _ (omega arith) (omega arith) (c.copy_from_slice.ensures.after ∙ sym (take_all _ c.args.text.now (omega arith)))) long
+
+pub returns-then-at-out-clause-text : goal.returns-then-at-out-clause-text
+returns-then-at-out-clause-text c =
+    let long : c.in_ok-end.end ≡ c.args.at + length c.args.text.now = omega (arith, c.in_ok-end.ensures) in
+    laid c.in_ok-end.end (laid_there c.args.out.now c.args.text.now c.copy_from_slice-then-at-out.new.self c.args.at _ _ (omega arith) (omega arith) c.copy_from_slice-then-at-out.ensures.after) long
+
+pub returns-else-at-out-clause-text : goal.returns-else-at-out-clause-text
+returns-else-at-out-clause-text c =
+    let long : c.in_ok-end.end ≡ c.args.at + length c.args.text.now = omega (arith, c.in_ok-end.ensures) in
+    laid c.in_ok-end.end (sym (sets_past c.args.text.now c.args.out.now c.args.at (omega arith))) long
