@@ -51,7 +51,7 @@ loop-reading-preserved g c = (
   (c.turn.ensures.same.0 ∙ c.loop-reading.invariant.0.0, c.turn.ensures.same.1 ∙ c.loop-reading.invariant.0.1),
   -- no turn is counted
   state_counted _ _ _ _ _ _ _ _
-  (state_turned _ _ _ _ _ _ _ _ _ _ c.loop-reading.invariant.1 (rw c.marks.ensures at (sym c.in-Ok.ensures.1 ∙ c.in-Broken.is)) c.turn.new.self.long c.if-not-turn.ensures.turned).0 (omega arith),
+      (state_turned _ _ _ _ _ _ _ _ _ _ c.loop-reading.invariant.1 (rw c.marks.ensures at (sym c.in-Ok.ensures.1 ∙ c.in-Broken.is)) c.turn.new.self.long c.if-not-turn.ensures.turned).0 (omega arith),
 )
 
 pub returns-in-None : goal.returns-in-None
