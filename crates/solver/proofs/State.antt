@@ -98,6 +98,10 @@ module _ (reads : List Mark → Reading) (n a : ℕ) where
       let q = turned_rest reads (trail_of d w) (trail_of d' w') ms ms' s.held u in
       goes_on d t 0 d' t ms ms' w w' s (omega arith) s.within q.2 l q.1 (broken_rest reads (trail_of d w) ms e ∙ ap (tick 0) q.0)
 
+  -- the same state, by an equal count
+  pub state_counted : (d t t' : ℕ) (ms : List Mark) (w : List ℕ) → State reads n a d t ms w → t' ≡ t → State reads n a d t' ms w
+  state_counted d t t' ms w s e = rw e s
+
   pub state_found : (d t : ℕ) (ms : List Mark) (w : List ℕ) → State reads n a d t ms w → reads ms ≡ Quiet → length ms ≤ first_open ms → ((whole reads n).found ≡ Some ms) × (t ≡ (whole reads n).trials)
   state_found d t ms w s e h =
       let z = found_rest reads (trail_of d w) ms h e in

@@ -7,8 +7,8 @@ use book::Mark;
 /// One step of the trail: a choice, and whether it is a trial that is not yet turned.
 #[derive(Clone, Copy)]
 pub(crate) struct Step {
-    choice: u16,
-    trial: bool,
+    pub(crate) choice: u16,
+    pub(crate) trial: bool,
 }
 
 impl Step {

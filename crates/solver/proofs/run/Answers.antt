@@ -1,5 +1,5 @@
 use Rattle.std.proofs.Common.{sym, ◌∙◌, refl, arith}
-use Rattle.solver.proofs.State.{forced_room, trial_room, state_start, state_forced, state_trial, state_turned}
+use Rattle.solver.proofs.State.{forced_room, trial_room, state_start, state_forced, state_trial, state_turned, state_counted}
 use Rattle.solver.proofs.Verdicts.{ran_found, ran_spent, ran_none}
 use Rattle.solver.proofs.run.Goals as goal
 
@@ -49,7 +49,9 @@ loop-reading-smaller g c =
 pub loop-reading-preserved : goal.loop-reading-preserved
 loop-reading-preserved g c = (
   (c.turn.ensures.same.0 ∙ c.loop-reading.invariant.0.0, c.turn.ensures.same.1 ∙ c.loop-reading.invariant.0.1),
-  (state_turned _ _ _ _ _ _ _ _ _ _ c.loop-reading.invariant.1 (rw c.marks.ensures at (sym c.in-Ok.ensures.1 ∙ c.in-Broken.is)) c.turn.new.self.long c.if-not-turn.ensures.turned).0,
+  -- no turn is counted
+  state_counted _ _ _ _ _ _ _ _
+      (state_turned _ _ _ _ _ _ _ _ _ _ c.loop-reading.invariant.1 (rw c.marks.ensures at (sym c.in-Ok.ensures.1 ∙ c.in-Broken.is)) c.turn.new.self.long c.if-not-turn.ensures.turned).0 (omega arith),
 )
 
 pub returns-in-None : goal.returns-in-None
