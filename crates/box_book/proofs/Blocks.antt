@@ -57,10 +57,14 @@ module _ (bs : List NameBox) (ms : List Mark) where
       by k h c (inl l) = x k (omega arith) (omega arith) c
       by k h c (inr l) = let past : mark_at ms k ≡ Open = get_or_past ms k Open (omega arith) in let yes = c.0 in let z : ◌≡◌ {A = ℕ} 0 1 = cc in omega arith
 
-  pub crowd_tested : (k : ℕ) → (mark_at ms k ≡ Yes) × (clashed bs ms k (box_at bs k) ≡ true) → crowded_at bs ms k ≡ true
+  -- the box at k is yes and clashes with a yes box before it
+  abbrev pub Crowds : ℕ → Type 0
+  Crowds k = (mark_at ms k ≡ Yes) × (clashed bs ms k (box_at bs k) ≡ true)
+
+  pub crowd_tested : (k : ℕ) → Crowds k → crowded_at bs ms k ≡ true
   crowd_tested k c = and_from (is_yes (mark_at ms k)) (clashed bs ms k (box_at bs k)) (ap is_yes c.0) c.1
 
-  pub crowd_told : (k : ℕ) → crowded_at bs ms k ≡ true → (mark_at ms k ≡ Yes) × (clashed bs ms k (box_at bs k) ≡ true)
+  pub crowd_told : (k : ℕ) → crowded_at bs ms k ≡ true → Crowds k
   crowd_told k e = let p = and_parts (is_yes (mark_at ms k)) (clashed bs ms k (box_at bs k)) e in (yes_is (mark_at ms k) p.0, p.1)
 
   -- the box at k is open and clashes with a yes box before place j

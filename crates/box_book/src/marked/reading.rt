@@ -33,11 +33,12 @@ impl<'a> Marked<'a> {
     fn is_crowded(&self) -> bool
         ensures { result ≡ crowded self.now.boxes.now self.now.marks.now }
     {
-        self.boxes
-            .iter()
-            .zip(self.marks)
-            .enumerate()
-            .any(|(k, (b, mark))| *mark == Mark::Yes && self.clashed(*b, k))
+        for (k, mark) in self.marks.iter().enumerate() {
+            if *mark == Mark::Yes && self.clashed(self.boxes[k], k) {
+                return true;
+            }
+        }
+        false
     }
 
     /// The first open box that clashes with a yes box.
@@ -45,11 +46,13 @@ impl<'a> Marked<'a> {
         ensures { result ≡ first_below (blocked_at self.now.boxes.now self.now.marks.now) (length self.now.boxes.now) }
     {
         let mut first = None;
-        for (b, mark) in self.boxes.iter().zip(self.marks) {
+        for (k, mark) in self.marks.iter().enumerate() {
             if *mark == Mark::Yes {
                 // Only the boxes before the first that is known are gone over.
                 let end = first.unwrap_or(self.boxes.len());
-                first = self.first_clashing(Mark::Open, *b, end).or(first);
+                first = self
+                    .first_clashing(Mark::Open, self.boxes[k], end)
+                    .or(first);
             }
         }
         first
