@@ -51,7 +51,8 @@ pub fn put_number(out: &mut [u8], at: usize, number: u64) -> Option<usize>
         return put(out, at, &[b'0' + number as u8]);
     }
     if number < 100 {
-        return put(out, at, &[b'0' + (number / 10) as u8, b'0' + (number % 10) as u8]);
+        let digits = [b'0' + (number / 10) as u8, b'0' + (number % 10) as u8];
+        return put(out, at, &digits);
     }
     put_long(out, at, number)
 }
