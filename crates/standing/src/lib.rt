@@ -40,10 +40,8 @@ pub struct Member {
 fn place_of(count: usize, number: u16) -> Option<usize>
     ensures { result ≡ place_of count number }
 {
-    number
-        .checked_sub(1)
-        .map(usize::from)
-        .filter(|place| *place < count)
+    let place = usize::from(number.checked_sub(1)?);
+    (place < count).then_some(place)
 }
 
 /// The place of a choice in a list for a sheet of `n` choices.
