@@ -259,9 +259,6 @@ pub record PastDigits (bs rest : List ℕ) (r : ℕ) : Type 0 where
   pub kept : Kept so_far r
   pub least : r ≤ 65536
 
-pub no_digits_yet : (bs : List ℕ) → PastDigits bs bs 0
-no_digits_yet bs = record { many = omega arith; longest = omega arith; so_far = 0; same = refl; kept = inl (refl, omega arith); least = omega arith }
-
 pub digit_taken :
     (bs rest : List ℕ) (r m : ℕ) → PastDigits bs rest r → 0 < length rest → IsDigit (get_or rest 0 0) →
     (r * 10 + (get_or rest 0 0 - 48) ≤ 65535 → m ≡ r * 10 + (get_or rest 0 0 - 48)) → (65535 < r * 10 + (get_or rest 0 0 - 48) → 65535 < m) → m ≤ 65536 →
@@ -332,3 +329,7 @@ ahead_in_line bs rest at n p q r k l a =
 
 pub after_word : (bs rest : List ℕ) (at n k : ℕ) → rest ≡ drop at bs → drop k (take (length rest - n) (drop n rest)) ≡ drop (at + n + k) bs
 after_word bs rest at n k r = ap (drop k) (take_rest rest n ∙ ap (drop n) r ∙ drop-drop n at bs) ∙ drop-drop k (at + n) bs
+
+-- what stands first, at an equal place
+pub at_place : (p n : ℕ) (w : Word) (ws rest : List Placed) → n ≡ p → ws ≡ (n, w) ∷ rest → ws ≡ (p, w) ∷ rest
+at_place p n w ws rest e h = h ∙ ap (λ i. (i, w) ∷ rest) e

@@ -1,7 +1,7 @@
--- A row that is filled with members.
-use Rattle.std.proofs.Common.{◌≡◌, List, ◌++◌, length, take, drop, replicate}
+-- A row that is filled with members, and rows that are written.
+use Rattle.std.proofs.Common.{◌≡◌, ℕ, List, ◌++◌, length, get_or, set, take, drop, replicate}
 use Rattle.std.proofs.Math.Seq.{take-append_seam}
-use Rattle.std.proofs.lemmas.List.{drop-replicate}
+use Rattle.std.proofs.lemmas.List.{drop-replicate, set-get_or}
 use Rattle.standing.specs.declared.Member.{Member}
 use Rattle.standing.specs.Rows.{no_member, row_of}
 
@@ -11,3 +11,7 @@ module _ (ms xs : List Member) (e : xs ≡ ms) where
 
   pub filled : xs ++ drop (length ms) (replicate 8 no_member) ≡ row_of (take (length ms) (xs ++ drop (length ms) (replicate 8 no_member)))
   filled = rw (shown (drop (length ms) (replicate 8 no_member)), e, drop-replicate (length ms) 8 no_member)
+
+-- rows of which one is written as it was
+pub unchanged : (rows : List (List Member)) (i : ℕ) (none : List Member) → set rows i (get_or rows i none) ≡ rows
+unchanged rows i none = set-get_or rows i none

@@ -55,7 +55,7 @@ impl Bans {
     }
 
     /// Adds a ban on a sheet of `n` choices, at the end.
-    #[tactic(auto, using(crate::proofs::Members::room_last))]
+    #[tactic(auto, using(crate::proofs::Members::room_last, crate::proofs::Rows::unchanged))]
     pub fn ban(&mut self, n: SheetSize, members: &[Member]) -> Result<(), JobFault>
         ensures { Does (ban_fault n.value (length self.old) members.now) self.old (self.old ++ (members.now ∷ [])) result self.new }
     {

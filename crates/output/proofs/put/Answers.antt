@@ -1,4 +1,4 @@
-use Rattle.std.proofs.Common.{◌≡◌, ◌+◌, ◌∙◌, length, sym, arith}
+use Rattle.std.proofs.Common.{◌≡◌, ℕ, ◌+◌, ◌∙◌, length, take, sym, ap, arith}
 use Rattle.std.proofs.lemmas.List.{take_all}
 use Rattle.output.specs.Writing.{laid, beyond}
 use Rattle.output.proofs.Pieces.{laid_there, sets_past}
@@ -15,7 +15,7 @@ returns-then-end-out-clause-text c =
 pub returns-then-at-out-clause-text : goal.returns-then-at-out-clause-text
 returns-then-at-out-clause-text c =
     let long : c.in_ok-end.end ≡ c.args.at + length c.args.text.now = omega (arith, c.in_ok-end.ensures) in
-    laid c.in_ok-end.end (laid_there c.args.out.now c.args.text.now c.copy_from_slice-then-at-out.new.self c.args.at _ _ (omega arith) (omega arith) c.copy_from_slice-then-at-out.ensures.after) long
+    laid c.in_ok-end.end (laid_there c.args.out.now c.args.text.now c.copy_from_slice-then-at-out.new.self c.args.at _ _ (omega arith) (omega arith) (c.copy_from_slice-then-at-out.ensures.after ∙ ap (λ (k : ℕ). take k c.args.text.now) (omega arith))) long
 
 pub returns-else-at-out-clause-text : goal.returns-else-at-out-clause-text
 returns-else-at-out-clause-text c =
