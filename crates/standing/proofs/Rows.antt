@@ -12,6 +12,7 @@ module _ (ms xs : List Member) (e : xs ≡ ms) where
   pub filled : xs ++ drop (length ms) (replicate 8 no_member) ≡ row_of (take (length ms) (xs ++ drop (length ms) (replicate 8 no_member)))
   filled = rw (shown (drop (length ms) (replicate 8 no_member)), e, drop-replicate (length ms) 8 no_member)
 
--- rows of which one is written as it was
+-- Rows of which one is written as it was. `Bans::ban` has this at hand, so that its check refuses a row that changes and not
+-- the writing of one.
 pub unchanged : (rows : List (List Member)) (i : ℕ) (none : List Member) → set rows i (get_or rows i none) ≡ rows
 unchanged rows i none = set-get_or rows i none

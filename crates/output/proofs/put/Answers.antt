@@ -12,6 +12,8 @@ returns-then-end-out-clause-text c =
     let long : c.in_ok-end.end ≡ c.args.at + length c.args.text.now = omega (arith, c.in_ok-end.ensures) in
     laid c.in_ok-end.end (laid_there c.args.out.now c.args.text.now c.copy_from_slice.new.self c.args.at _ _ (omega arith) (omega arith) (c.copy_from_slice.ensures.after ∙ sym (take_all _ c.args.text.now (omega arith)))) long
 
+-- The length of the text's part that has room is told equal by `omega`, so that another way to reckon it needs no other
+-- answer.
 pub returns-then-at-out-clause-text : goal.returns-then-at-out-clause-text
 returns-then-at-out-clause-text c =
     let long : c.in_ok-end.end ≡ c.args.at + length c.args.text.now = omega (arith, c.in_ok-end.ensures) in

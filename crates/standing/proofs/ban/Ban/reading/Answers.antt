@@ -5,6 +5,7 @@ use Rattle.standing.proofs.Findings.{none_lacks, one_is_away, one_lacks, two_lac
 use Rattle.standing.proofs.ban.Ban.reading.Goals as goal
 use Rattle.standing.proofs.ban.Ban.reading.Goals.{else-is_open-via-then-is_open+else-is_none, else-is_open-via-else-is_open}
 
+-- That the iterator goes over all members is told by `grind`, so that another way to take them all needs no other answers.
 pub returns-in_default : goal.returns-in_default
 returns-in_default c =
     none_lacks c.args.marks.now c.args.self.now c.filter_map-lacking.result _ (grind (arith, common_steps)) c.filter_map-lacking.ensures.closure (λ x b q k. search (rules, tests)) _ _ c.next.ensures.steps c.in_default.is
